@@ -1,5 +1,7 @@
 -- The law, from each routine's own.
-use Rattle.std.proofs.Common.{◌≡◌, IsTrue, false, Some, None}
+use Rattle.std.proofs.Common.{◌≡◌, IsTrue, false, Some, None, refl}
+use Rattle.std.specs.Prelude.{bit_and, bit_or, bit_xor}
+use Rattle.c65_mach.specs.declared.rows.Op.TheVariants as ops
 use Rattle.c65_code.specs.declared.routine.Routine.TheVariants as routines
 use Rattle.c65_code.specs.declared.routine.TosOp.{TosOp}
 use Rattle.c65_code.specs.declared.routine.TosOp.TheVariants as tos
@@ -16,18 +18,11 @@ use Rattle.c65_rtl.proofs.Longs.{pusheax, ldeaxysp, popeax, popptrs}
 use Rattle.c65_rtl.proofs.Widenings.{signa, longax, ulongax}
 use Rattle.c65_rtl.proofs.ThroughPointers.{ldai, ldaxi, ldeaxi}
 use Rattle.c65_rtl.proofs.ToMemory.{statos, staxtos, steaxtos, saveregs, restregs}
-use Rattle.c65_rtl.proofs.UnaryWords.{unary_word}
-use Rattle.c65_rtl.proofs.UnaryLongs.{unary_long}
-use Rattle.c65_rtl.proofs.ArithmeticWords.{tosaddax, tossubax, tosandax, tosorax, tosxorax}
-use Rattle.c65_rtl.proofs.ArithmeticLongs.{tosaddeax, tossubeax, tosandeax, tosoreax, tosxoreax}
-use Rattle.c65_rtl.proofs.OrderWords.{toseqax, tosneax, tosltax, tosleax, tosgtax, tosgeax, tosultax, tosuleax, tosugtax, tosugeax}
-use Rattle.c65_rtl.proofs.OrderLongs.{toseqeax, tosneeax, toslteax, tosleeax, tosgteax, tosgeeax, tosulteax, tosuleeax, tosugteax, tosugeeax}
-use Rattle.c65_rtl.proofs.ShiftWordUp.{tosshlax}
-use Rattle.c65_rtl.proofs.ShiftWordDown.{tosshrax}
-use Rattle.c65_rtl.proofs.ShiftWordSigned.{tosasrax}
-use Rattle.c65_rtl.proofs.ShiftLongUp.{tosshleax}
-use Rattle.c65_rtl.proofs.ShiftLongDown.{tosshreax}
-use Rattle.c65_rtl.proofs.ShiftLongSigned.{tosasreax}
+use Rattle.c65_rtl.proofs.UnaryRows.{unary}
+use Rattle.c65_rtl.proofs.Bits.{and_bits, or_bits, xor_bits}
+use Rattle.c65_rtl.proofs.ArithmeticRows.{add, sub, bitwise}
+use Rattle.c65_rtl.proofs.OrderRows.{eq, ne, lt, le, gt, ge, ult, ule, ugt, uge}
+use Rattle.c65_rtl.proofs.ShiftRows.{shl, shr, asr}
 
 none_shown : IsTrue false → ⊥
 none_shown h = cc
@@ -36,54 +31,54 @@ no_row : (row : Row) → None ≡ Some row → ⊥
 no_row row e = cc
 
 operator_of_words : (s : RawSetting) (op : TosOp) → IsTrue (is_shown (routines.Tos op Ax)) → s.lines (s.routine (routines.Tos op Ax)) ≡ lines_of (routines.Tos op Ax) → MeetsRow s (routines.Tos op Ax)
-operator_of_words s tos.Add shown has = tosaddax s has
-operator_of_words s tos.Sub shown has = tossubax s has
-operator_of_words s tos.And shown has = tosandax s has
-operator_of_words s tos.Or shown has = tosorax s has
-operator_of_words s tos.Xor shown has = tosxorax s has
-operator_of_words s tos.Eq shown has = toseqax s has
-operator_of_words s tos.Ne shown has = tosneax s has
-operator_of_words s tos.Lt shown has = tosltax s has
-operator_of_words s tos.Le shown has = tosleax s has
-operator_of_words s tos.Gt shown has = tosgtax s has
-operator_of_words s tos.Ge shown has = tosgeax s has
-operator_of_words s tos.ULt shown has = tosultax s has
-operator_of_words s tos.ULe shown has = tosuleax s has
-operator_of_words s tos.UGt shown has = tosugtax s has
-operator_of_words s tos.UGe shown has = tosugeax s has
+operator_of_words s tos.Add shown has = add s Ax refl has
+operator_of_words s tos.Sub shown has = sub s Ax refl has
+operator_of_words s tos.And shown has = bitwise s tos.And ops.And bit_and and_bits Ax (refl, λ a b. refl) refl refl refl has
+operator_of_words s tos.Or shown has = bitwise s tos.Or ops.Ora bit_or or_bits Ax (refl, λ a b. refl) refl refl refl has
+operator_of_words s tos.Xor shown has = bitwise s tos.Xor ops.Eor bit_xor xor_bits Ax (refl, λ a b. refl) refl refl refl has
+operator_of_words s tos.Eq shown has = eq s Ax refl has
+operator_of_words s tos.Ne shown has = ne s Ax refl has
+operator_of_words s tos.Lt shown has = lt s Ax refl has
+operator_of_words s tos.Le shown has = le s Ax refl has
+operator_of_words s tos.Gt shown has = gt s Ax refl has
+operator_of_words s tos.Ge shown has = ge s Ax refl has
+operator_of_words s tos.ULt shown has = ult s Ax refl has
+operator_of_words s tos.ULe shown has = ule s Ax refl has
+operator_of_words s tos.UGt shown has = ugt s Ax refl has
+operator_of_words s tos.UGe shown has = uge s Ax refl has
 operator_of_words s tos.Mul shown has = absurd (none_shown shown)
 operator_of_words s tos.Div shown has = absurd (none_shown shown)
 operator_of_words s tos.Mod shown has = absurd (none_shown shown)
 operator_of_words s tos.UDiv shown has = absurd (none_shown shown)
 operator_of_words s tos.UMod shown has = absurd (none_shown shown)
-operator_of_words s tos.Shl shown has = tosshlax s has
-operator_of_words s tos.Shr shown has = tosshrax s has
-operator_of_words s tos.Asr shown has = tosasrax s has
+operator_of_words s tos.Shl shown has = shl s Ax has
+operator_of_words s tos.Shr shown has = shr s Ax has
+operator_of_words s tos.Asr shown has = asr s Ax has
 
 operator_of_longs : (s : RawSetting) (op : TosOp) → IsTrue (is_shown (routines.Tos op Eax)) → s.lines (s.routine (routines.Tos op Eax)) ≡ lines_of (routines.Tos op Eax) → MeetsRow s (routines.Tos op Eax)
-operator_of_longs s tos.Add shown has = tosaddeax s has
-operator_of_longs s tos.Sub shown has = tossubeax s has
-operator_of_longs s tos.And shown has = tosandeax s has
-operator_of_longs s tos.Or shown has = tosoreax s has
-operator_of_longs s tos.Xor shown has = tosxoreax s has
-operator_of_longs s tos.Eq shown has = toseqeax s has
-operator_of_longs s tos.Ne shown has = tosneeax s has
-operator_of_longs s tos.Lt shown has = toslteax s has
-operator_of_longs s tos.Le shown has = tosleeax s has
-operator_of_longs s tos.Gt shown has = tosgteax s has
-operator_of_longs s tos.Ge shown has = tosgeeax s has
-operator_of_longs s tos.ULt shown has = tosulteax s has
-operator_of_longs s tos.ULe shown has = tosuleeax s has
-operator_of_longs s tos.UGt shown has = tosugteax s has
-operator_of_longs s tos.UGe shown has = tosugeeax s has
+operator_of_longs s tos.Add shown has = add s Eax refl has
+operator_of_longs s tos.Sub shown has = sub s Eax refl has
+operator_of_longs s tos.And shown has = bitwise s tos.And ops.And bit_and and_bits Eax (refl, λ a b. refl) refl refl refl has
+operator_of_longs s tos.Or shown has = bitwise s tos.Or ops.Ora bit_or or_bits Eax (refl, λ a b. refl) refl refl refl has
+operator_of_longs s tos.Xor shown has = bitwise s tos.Xor ops.Eor bit_xor xor_bits Eax (refl, λ a b. refl) refl refl refl has
+operator_of_longs s tos.Eq shown has = eq s Eax refl has
+operator_of_longs s tos.Ne shown has = ne s Eax refl has
+operator_of_longs s tos.Lt shown has = lt s Eax refl has
+operator_of_longs s tos.Le shown has = le s Eax refl has
+operator_of_longs s tos.Gt shown has = gt s Eax refl has
+operator_of_longs s tos.Ge shown has = ge s Eax refl has
+operator_of_longs s tos.ULt shown has = ult s Eax refl has
+operator_of_longs s tos.ULe shown has = ule s Eax refl has
+operator_of_longs s tos.UGt shown has = ugt s Eax refl has
+operator_of_longs s tos.UGe shown has = uge s Eax refl has
 operator_of_longs s tos.Mul shown has = absurd (none_shown shown)
 operator_of_longs s tos.Div shown has = absurd (none_shown shown)
 operator_of_longs s tos.Mod shown has = absurd (none_shown shown)
 operator_of_longs s tos.UDiv shown has = absurd (none_shown shown)
 operator_of_longs s tos.UMod shown has = absurd (none_shown shown)
-operator_of_longs s tos.Shl shown has = tosshleax s has
-operator_of_longs s tos.Shr shown has = tosshreax s has
-operator_of_longs s tos.Asr shown has = tosasreax s has
+operator_of_longs s tos.Shl shown has = shl s Eax has
+operator_of_longs s tos.Shr shown has = shr s Eax has
+operator_of_longs s tos.Asr shown has = asr s Eax has
 
 pub rows_are_met : RowsAreMet
 rows_are_met s routines.PushA shown has = pusha s has
@@ -116,8 +111,8 @@ rows_are_met s routines.LongAx shown has = longax s has
 rows_are_met s routines.ULongAx shown has = ulongax s has
 rows_are_met s (routines.IncSp count) shown has = incsp s count has
 rows_are_met s (routines.DecSp count) shown has = decsp s count has
-rows_are_met s (routines.Unary op Ax) shown has = unary_word s op has
-rows_are_met s (routines.Unary op Eax) shown has = unary_long s op has
+rows_are_met s (routines.Unary op Ax) shown has = unary s op Ax has
+rows_are_met s (routines.Unary op Eax) shown has = unary s op Eax has
 rows_are_met s (routines.Tos op Ax) shown has = operator_of_words s op shown has
 rows_are_met s (routines.Tos op Eax) shown has = operator_of_longs s op shown has
 rows_are_met s routines.CallPtr4 shown has = λ row back t e may. absurd (no_row row e)

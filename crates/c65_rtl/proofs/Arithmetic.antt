@@ -1,15 +1,18 @@
 -- The pieces of lines that take TOS and the primary register together.
-use Rattle.std.proofs.Common.{◌≡◌, ℕ, ◌+◌, ◌-◌, ◌*◌, ◌%◌, Bool, List, ◌∷◌, None, ap}
-use Rattle.std.specs.Prelude.{nat_lt, bit_and, bit_or, bit_xor}
-use Rattle.c65_mach.specs.Step.{bit}
-use Rattle.c65_mach.specs.declared.rows.Op.TheVariants.{Adc, And, Clc, Eor, Iny, Lda, Ldy, Ora, Sbc, Sec, Sta, Stx, Tax, Txa}
+use Rattle.std.proofs.Common.{◌≡◌, ℕ, ◌+◌, ◌-◌, ◌*◌, ◌%◌, Bool, List, ◌∷◌, None, sym, ap, subst}
+use Rattle.std.specs.Prelude.{nat_lt}
+use Rattle.c65_mach.specs.Step.{bit, with_a}
+use Rattle.c65_mach.specs.declared.rows.Op.{Op}
+use Rattle.c65_mach.specs.declared.rows.Op.TheVariants.{Adc, Clc, Iny, Lda, Ldy, Sbc, Sec, Sta, Stx, Tax, Txa}
 use Rattle.c65_code.specs.declared.line.Line.{Line}
 use Rattle.c65_code.specs.LineState.{write, State}
 use Rattle.c65_code.specs.Placement.{Placement}
 use Rattle.c65_code.specs.RawMachine.{Bounds, IsReachable}
 use Rattle.c65_rtl.specs.Assembly.{sp, sreg, tmp1, tmp2, implied, value, zero_page, by_y}
-use Rattle.c65_rtl.proofs.Ways.{leads}
+use Rattle.c65_rtl.proofs.Ways.{leads, by_form}
 use Rattle.c65_rtl.proofs.Stores.{reach_as}
+use Rattle.c65_code.specs.Forms.{Form}
+use Rattle.c65_rtl.proofs.Bits.{IsBitwise}
 use Rattle.c65_rtl.proofs.Sums.{plus_0, plus_1, minus_0, minus_1}
 
 -- the state once A is taken from tmp1
@@ -78,95 +81,37 @@ sub_upper_at place bounds P rest at u e2 e3 r2 r3 follows =
     let a3 : ℕ = (u.zp 0 + 256 * u.zp 1 + 3) % 65536 in
     (reach_as place bounds a2 (at + 2) e2 r2, (reach_as place bounds a3 (at + 3) e3 r3, follows (u.mem a2) (u.mem a3) _ _ _ (ap u.mem e2) (ap u.mem e3)))
 
--- AND
-abbrev pub and_on : List Line → List Line
-and_on rest = value Ldy 0 ∷ by_y And sp ∷ zero_page Sta tmp1 ∷ implied Iny ∷ implied Txa ∷ by_y And sp ∷ implied Tax ∷ rest
+-- AND, ORA and EOR
+by_y_at : (op : Op) (f : ℕ → ℕ → ℕ) → IsBitwise op f → (place : Placement) (bounds : Bounds) (P : State → Type 0) (rest : List Line) (at : ℕ) (u : State) → (u.zp 0 + 256 * u.zp 1 + u.regs.y) % 65536 ≡ at → IsReachable place bounds at
+    → leads place bounds P rest None (record u { regs = with_a (f u.regs.a (u.mem ((u.zp 0 + 256 * u.zp 1 + u.regs.y) % 65536))) u.regs }) → leads place bounds P (by_y op sp ∷ rest) None u
+unfolding leads
+by_y_at op f bits place bounds P rest at u e r follows =
+    subst (λ (form : Form). by_form place bounds P form (leads place bounds P rest) None u) (sym bits.form) (reach_as place bounds _ at e r, subst (leads place bounds P rest None) (sym (bits.acts 0 u)) follows)
 
-abbrev pub and_state : State → ℕ → ℕ → Bool → Bool → Bool → State
-and_state u m0 m1 n v z = record u { regs = record { a = bit_and u.regs.x m1; x = bit_and u.regs.x m1; y = 1; n = n; v = v; z = z; c = u.regs.c }; zp = write u.zp 16 (bit_and u.regs.a m0) }
+abbrev pub bits_on : Op → List Line → List Line
+bits_on op rest = value Ldy 0 ∷ by_y op sp ∷ zero_page Sta tmp1 ∷ implied Iny ∷ implied Txa ∷ by_y op sp ∷ implied Tax ∷ rest
 
-pub and_at : (place : Placement) (bounds : Bounds) (P : State → Type 0) (rest : List Line) (at : ℕ) (u : State) → (u.zp 0 + 256 * u.zp 1 + 0) % 65536 ≡ at → (u.zp 0 + 256 * u.zp 1 + 1) % 65536 ≡ at + 1
+abbrev pub bits_state : (ℕ → ℕ → ℕ) → State → ℕ → ℕ → Bool → Bool → Bool → State
+bits_state f u m0 m1 n v z = record u { regs = record { a = f u.regs.x m1; x = f u.regs.x m1; y = 1; n = n; v = v; z = z; c = u.regs.c }; zp = write u.zp 16 (f u.regs.a m0) }
+
+pub bits_at : (op : Op) (f : ℕ → ℕ → ℕ) → IsBitwise op f → (place : Placement) (bounds : Bounds) (P : State → Type 0) (rest : List Line) (at : ℕ) (u : State) → (u.zp 0 + 256 * u.zp 1 + 0) % 65536 ≡ at → (u.zp 0 + 256 * u.zp 1 + 1) % 65536 ≡ at + 1
     → IsReachable place bounds at → IsReachable place bounds (at + 1)
-    → ((m0 m1 : ℕ) (n v z : Bool) → m0 ≡ u.mem at → m1 ≡ u.mem (at + 1) → leads place bounds P rest None (and_state u m0 m1 n v z)) → leads place bounds P (and_on rest) None u
+    → ((m0 m1 : ℕ) (n v z : Bool) → m0 ≡ u.mem at → m1 ≡ u.mem (at + 1) → leads place bounds P rest None (bits_state f u m0 m1 n v z)) → leads place bounds P (bits_on op rest) None u
 unfolding leads
-and_at place bounds P rest at u e0 e1 r0 r1 follows =
-    let a0 : ℕ = (u.zp 0 + 256 * u.zp 1 + 0) % 65536 in
-    let a1 : ℕ = (u.zp 0 + 256 * u.zp 1 + 1) % 65536 in
-    (reach_as place bounds a0 at e0 r0, (reach_as place bounds a1 (at + 1) e1 r1, follows (u.mem a0) (u.mem a1) _ _ _ (ap u.mem e0) (ap u.mem e1)))
+bits_at op f bits place bounds P rest at u e0 e1 r0 r1 follows =
+    by_y_at op f bits place bounds P (zero_page Sta tmp1 ∷ implied Iny ∷ implied Txa ∷ by_y op sp ∷ implied Tax ∷ rest) at (record u { regs = record u.regs { y = 0; n = _; z = _ } }) e0 r0
+    (by_y_at op f bits place bounds P (implied Tax ∷ rest) (at + 1) _ e1 r1 (follows _ _ _ _ _ (ap u.mem e0) (ap u.mem e1)))
 
-abbrev pub and_upper_on : List Line → List Line
-and_upper_on rest = implied Iny ∷ zero_page Lda sreg ∷ by_y And sp ∷ zero_page Sta sreg ∷ implied Iny ∷ zero_page Lda (sreg + 1) ∷ by_y And sp ∷ zero_page Sta (sreg + 1) ∷ rest
+abbrev pub bits_upper_on : Op → List Line → List Line
+bits_upper_on op rest = implied Iny ∷ zero_page Lda sreg ∷ by_y op sp ∷ zero_page Sta sreg ∷ implied Iny ∷ zero_page Lda (sreg + 1) ∷ by_y op sp ∷ zero_page Sta (sreg + 1) ∷ rest
 
-abbrev pub and_upper_state : State → ℕ → ℕ → Bool → Bool → Bool → State
-and_upper_state u m2 m3 n v z = record u { regs = record { a = bit_and (u.zp 3) m3; x = u.regs.x; y = 3; n = n; v = v; z = z; c = u.regs.c }; zp = write (write u.zp 2 (bit_and (u.zp 2) m2)) 3 (bit_and (u.zp 3) m3) }
+abbrev pub bits_upper_state : (ℕ → ℕ → ℕ) → State → ℕ → ℕ → Bool → Bool → Bool → State
+bits_upper_state f u m2 m3 n v z = record u { regs = record { a = f (u.zp 3) m3; x = u.regs.x; y = 3; n = n; v = v; z = z; c = u.regs.c }; zp = write (write u.zp 2 (f (u.zp 2) m2)) 3 (f (u.zp 3) m3) }
 
-pub and_upper_at : (place : Placement) (bounds : Bounds) (P : State → Type 0) (rest : List Line) (at : ℕ) (u : State) → (u.zp 0 + 256 * u.zp 1 + 2) % 65536 ≡ at + 2 → (u.zp 0 + 256 * u.zp 1 + 3) % 65536 ≡ at + 3
+pub bits_upper_at : (op : Op) (f : ℕ → ℕ → ℕ) → IsBitwise op f → (place : Placement) (bounds : Bounds) (P : State → Type 0) (rest : List Line) (at : ℕ) (u : State) → (u.zp 0 + 256 * u.zp 1 + 2) % 65536 ≡ at + 2 → (u.zp 0 + 256 * u.zp 1 + 3) % 65536 ≡ at + 3
     → IsReachable place bounds (at + 2) → IsReachable place bounds (at + 3)
-    → ((m2 m3 : ℕ) (n v z : Bool) → m2 ≡ u.mem (at + 2) → m3 ≡ u.mem (at + 3) → leads place bounds P rest None (and_upper_state u m2 m3 n v z)) → leads place bounds P (and_upper_on rest) None (record u { regs = record u.regs { y = 1 } })
+    → ((m2 m3 : ℕ) (n v z : Bool) → m2 ≡ u.mem (at + 2) → m3 ≡ u.mem (at + 3) → leads place bounds P rest None (bits_upper_state f u m2 m3 n v z)) → leads place bounds P (bits_upper_on op rest) None (record u { regs = record u.regs { y = 1 } })
 unfolding leads
-and_upper_at place bounds P rest at u e2 e3 r2 r3 follows =
-    let a2 : ℕ = (u.zp 0 + 256 * u.zp 1 + 2) % 65536 in
-    let a3 : ℕ = (u.zp 0 + 256 * u.zp 1 + 3) % 65536 in
-    (reach_as place bounds a2 (at + 2) e2 r2, (reach_as place bounds a3 (at + 3) e3 r3, follows (u.mem a2) (u.mem a3) _ _ _ (ap u.mem e2) (ap u.mem e3)))
-
--- ORA
-abbrev pub or_on : List Line → List Line
-or_on rest = value Ldy 0 ∷ by_y Ora sp ∷ zero_page Sta tmp1 ∷ implied Iny ∷ implied Txa ∷ by_y Ora sp ∷ implied Tax ∷ rest
-
-abbrev pub or_state : State → ℕ → ℕ → Bool → Bool → Bool → State
-or_state u m0 m1 n v z = record u { regs = record { a = bit_or u.regs.x m1; x = bit_or u.regs.x m1; y = 1; n = n; v = v; z = z; c = u.regs.c }; zp = write u.zp 16 (bit_or u.regs.a m0) }
-
-pub or_at : (place : Placement) (bounds : Bounds) (P : State → Type 0) (rest : List Line) (at : ℕ) (u : State) → (u.zp 0 + 256 * u.zp 1 + 0) % 65536 ≡ at → (u.zp 0 + 256 * u.zp 1 + 1) % 65536 ≡ at + 1
-    → IsReachable place bounds at → IsReachable place bounds (at + 1)
-    → ((m0 m1 : ℕ) (n v z : Bool) → m0 ≡ u.mem at → m1 ≡ u.mem (at + 1) → leads place bounds P rest None (or_state u m0 m1 n v z)) → leads place bounds P (or_on rest) None u
-unfolding leads
-or_at place bounds P rest at u e0 e1 r0 r1 follows =
-    let a0 : ℕ = (u.zp 0 + 256 * u.zp 1 + 0) % 65536 in
-    let a1 : ℕ = (u.zp 0 + 256 * u.zp 1 + 1) % 65536 in
-    (reach_as place bounds a0 at e0 r0, (reach_as place bounds a1 (at + 1) e1 r1, follows (u.mem a0) (u.mem a1) _ _ _ (ap u.mem e0) (ap u.mem e1)))
-
-abbrev pub or_upper_on : List Line → List Line
-or_upper_on rest = implied Iny ∷ zero_page Lda sreg ∷ by_y Ora sp ∷ zero_page Sta sreg ∷ implied Iny ∷ zero_page Lda (sreg + 1) ∷ by_y Ora sp ∷ zero_page Sta (sreg + 1) ∷ rest
-
-abbrev pub or_upper_state : State → ℕ → ℕ → Bool → Bool → Bool → State
-or_upper_state u m2 m3 n v z = record u { regs = record { a = bit_or (u.zp 3) m3; x = u.regs.x; y = 3; n = n; v = v; z = z; c = u.regs.c }; zp = write (write u.zp 2 (bit_or (u.zp 2) m2)) 3 (bit_or (u.zp 3) m3) }
-
-pub or_upper_at : (place : Placement) (bounds : Bounds) (P : State → Type 0) (rest : List Line) (at : ℕ) (u : State) → (u.zp 0 + 256 * u.zp 1 + 2) % 65536 ≡ at + 2 → (u.zp 0 + 256 * u.zp 1 + 3) % 65536 ≡ at + 3
-    → IsReachable place bounds (at + 2) → IsReachable place bounds (at + 3)
-    → ((m2 m3 : ℕ) (n v z : Bool) → m2 ≡ u.mem (at + 2) → m3 ≡ u.mem (at + 3) → leads place bounds P rest None (or_upper_state u m2 m3 n v z)) → leads place bounds P (or_upper_on rest) None (record u { regs = record u.regs { y = 1 } })
-unfolding leads
-or_upper_at place bounds P rest at u e2 e3 r2 r3 follows =
-    let a2 : ℕ = (u.zp 0 + 256 * u.zp 1 + 2) % 65536 in
-    let a3 : ℕ = (u.zp 0 + 256 * u.zp 1 + 3) % 65536 in
-    (reach_as place bounds a2 (at + 2) e2 r2, (reach_as place bounds a3 (at + 3) e3 r3, follows (u.mem a2) (u.mem a3) _ _ _ (ap u.mem e2) (ap u.mem e3)))
-
--- EOR
-abbrev pub xor_on : List Line → List Line
-xor_on rest = value Ldy 0 ∷ by_y Eor sp ∷ zero_page Sta tmp1 ∷ implied Iny ∷ implied Txa ∷ by_y Eor sp ∷ implied Tax ∷ rest
-
-abbrev pub xor_state : State → ℕ → ℕ → Bool → Bool → Bool → State
-xor_state u m0 m1 n v z = record u { regs = record { a = bit_xor u.regs.x m1; x = bit_xor u.regs.x m1; y = 1; n = n; v = v; z = z; c = u.regs.c }; zp = write u.zp 16 (bit_xor u.regs.a m0) }
-
-pub xor_at : (place : Placement) (bounds : Bounds) (P : State → Type 0) (rest : List Line) (at : ℕ) (u : State) → (u.zp 0 + 256 * u.zp 1 + 0) % 65536 ≡ at → (u.zp 0 + 256 * u.zp 1 + 1) % 65536 ≡ at + 1
-    → IsReachable place bounds at → IsReachable place bounds (at + 1)
-    → ((m0 m1 : ℕ) (n v z : Bool) → m0 ≡ u.mem at → m1 ≡ u.mem (at + 1) → leads place bounds P rest None (xor_state u m0 m1 n v z)) → leads place bounds P (xor_on rest) None u
-unfolding leads
-xor_at place bounds P rest at u e0 e1 r0 r1 follows =
-    let a0 : ℕ = (u.zp 0 + 256 * u.zp 1 + 0) % 65536 in
-    let a1 : ℕ = (u.zp 0 + 256 * u.zp 1 + 1) % 65536 in
-    (reach_as place bounds a0 at e0 r0, (reach_as place bounds a1 (at + 1) e1 r1, follows (u.mem a0) (u.mem a1) _ _ _ (ap u.mem e0) (ap u.mem e1)))
-
-abbrev pub xor_upper_on : List Line → List Line
-xor_upper_on rest = implied Iny ∷ zero_page Lda sreg ∷ by_y Eor sp ∷ zero_page Sta sreg ∷ implied Iny ∷ zero_page Lda (sreg + 1) ∷ by_y Eor sp ∷ zero_page Sta (sreg + 1) ∷ rest
-
-abbrev pub xor_upper_state : State → ℕ → ℕ → Bool → Bool → Bool → State
-xor_upper_state u m2 m3 n v z = record u { regs = record { a = bit_xor (u.zp 3) m3; x = u.regs.x; y = 3; n = n; v = v; z = z; c = u.regs.c }; zp = write (write u.zp 2 (bit_xor (u.zp 2) m2)) 3 (bit_xor (u.zp 3) m3) }
-
-pub xor_upper_at : (place : Placement) (bounds : Bounds) (P : State → Type 0) (rest : List Line) (at : ℕ) (u : State) → (u.zp 0 + 256 * u.zp 1 + 2) % 65536 ≡ at + 2 → (u.zp 0 + 256 * u.zp 1 + 3) % 65536 ≡ at + 3
-    → IsReachable place bounds (at + 2) → IsReachable place bounds (at + 3)
-    → ((m2 m3 : ℕ) (n v z : Bool) → m2 ≡ u.mem (at + 2) → m3 ≡ u.mem (at + 3) → leads place bounds P rest None (xor_upper_state u m2 m3 n v z)) → leads place bounds P (xor_upper_on rest) None (record u { regs = record u.regs { y = 1 } })
-unfolding leads
-xor_upper_at place bounds P rest at u e2 e3 r2 r3 follows =
-    let a2 : ℕ = (u.zp 0 + 256 * u.zp 1 + 2) % 65536 in
-    let a3 : ℕ = (u.zp 0 + 256 * u.zp 1 + 3) % 65536 in
-    (reach_as place bounds a2 (at + 2) e2 r2, (reach_as place bounds a3 (at + 3) e3 r3, follows (u.mem a2) (u.mem a3) _ _ _ (ap u.mem e2) (ap u.mem e3)))
+bits_upper_at op f bits place bounds P rest at u e2 e3 r2 r3 follows =
+    by_y_at op f bits place bounds P (zero_page Sta sreg ∷ implied Iny ∷ zero_page Lda (sreg + 1) ∷ by_y op sp ∷ zero_page Sta (sreg + 1) ∷ rest) (at + 2) _ e2 r2
+    (by_y_at op f bits place bounds P (zero_page Sta (sreg + 1) ∷ rest) (at + 3) _ e3 r3 (follows _ _ _ _ _ (ap u.mem e2) (ap u.mem e3)))

@@ -1,11 +1,11 @@
 -- What the comparisons of the lines tell of numbers.
-use Rattle.std.proofs.Common.{◌≡◌, ℕ, suc, ◌+◌, ◌-◌, ◌*◌, ◌/◌, ◌%◌, ◌<◌, ◌≤◌, Bool, nat_eq, ◌∙◌, arith}
+use Rattle.std.proofs.Common.{◌≡◌, ℕ, suc, ◌+◌, ◌-◌, ◌*◌, ◌/◌, ◌%◌, ◌<◌, ◌≤◌, Bool, true, false, not, nat_eq, ap, ◌∙◌, arith}
 use Rattle.std.specs.Prelude.{nat_lt, nat_le, bit_and, bit_or, bit_xor}
 use Rattle.c65_mach.specs.Step.{bit, negative}
 use Rattle.c65_code.specs.declared.routine.Width.TheVariants.{Ax, Eax}
 use Rattle.c65_code.specs.Numbers.{turned}
 use Rattle.c65_rtl.proofs.UnaryWords.{bit_carry}
-use Rattle.c65_rtl.proofs.Flags.{le_same, eq_same, xor_none, xor_same, or_none_left, or_none_right, or_both, flipped, sign_of_sum}
+use Rattle.c65_rtl.proofs.Flags.{not_le, le_same, eq_same, xor_none, xor_same, or_none_left, or_none_right, or_both, flipped, sign_of_sum}
 
 -- AX, or EAX, less the number on the stack, byte by byte, where c is 1 if nothing more is taken off
 abbrev pub less_0 : ℕ → ℕ → ℕ → ℕ
@@ -67,112 +67,78 @@ long_equal a x l h m0 m1 m2 m3 la lx ll l0 l1 l2 = eq_same (bit_or (bit_xor h m3
         let d0 : a ≡ m0 = omega arith in
         or_both (bit_xor h m3) second (xor_same h m3 d3) (or_both (bit_xor l m2) first (xor_same l m2 d2) (or_both (bit_xor x m1) (bit_xor a m0) (xor_same x m1 d1) (xor_same a m0 d0)))
 
-pub word_clc : (a x m0 m1 : ℕ) → a < 256 → x < 256 → m0 < 256 → m1 < 256 → nat_lt 255 (less_1 0 a x m0 m1) ≡ nat_lt (m0 + 256 * m1) (a + 256 * x)
-word_clc a x m0 m1 la lx l0 l1 =
-    let small : (less_0 0 a m0) < 512 = omega arith in
-    let c0 : bit (nat_lt 255 (less_0 0 a m0)) ≡ (less_0 0 a m0) / 256 = bit_carry (less_0 0 a m0) small in
-    le_same 256 (less_1 0 a x m0 m1) (suc (m0 + 256 * m1)) (a + 256 * x) (λ g. omega arith) (λ g. omega arith)
+-- below, or not above where nothing more was taken off
+abbrev pub less : Bool → ℕ → ℕ → Bool
+less false t p = nat_lt t p
+less true t p = nat_le t p
+
+less_is : (k : Bool) (t p : ℕ) → nat_le (suc t) (bit k + p) ≡ less k t p
+less_is false t p = le_same (suc t) (0 + p) (suc t) p (λ g. omega arith) (λ g. omega arith)
+less_is true t p = le_same (suc t) (1 + p) t p (λ g. omega arith) (λ g. omega arith)
+
+carry_small : (k : Bool) → bit k ≤ 1
+carry_small true = omega arith
+carry_small false = omega arith
+
+pub word_less : (k : Bool) (a x m0 m1 : ℕ) → a < 256 → x < 256 → m0 < 256 → m1 < 256 → nat_lt 255 (less_1 (bit k) a x m0 m1) ≡ less k (m0 + 256 * m1) (a + 256 * x)
+word_less k a x m0 m1 la lx l0 l1 =
+    let c = carry_small k in
+    let t0 : less_0 (bit k) a m0 < 512 = omega arith in
+    let c0 : bit (nat_lt 255 (less_0 (bit k) a m0)) ≡ less_0 (bit k) a m0 / 256 = bit_carry (less_0 (bit k) a m0) t0 in
+    le_same 256 (less_1 (bit k) a x m0 m1) (suc (m0 + 256 * m1)) (bit k + (a + 256 * x)) (λ g. omega arith) (λ g. omega arith) ∙ less_is k (m0 + 256 * m1) (a + 256 * x)
 
 -- the carry out of the lower three bytes
-lower_clc : (a x l m0 m1 m2 : ℕ) → a < 256 → x < 256 → l < 256 → m0 < 256 → m1 < 256 → m2 < 256
-    → bit (nat_lt 255 (less_2 0 a x l m0 m1 m2)) ≡ (a + 256 * x + 65536 * l + (16777215 - (m0 + 256 * m1 + 65536 * m2)) + 0) / 16777216
-lower_clc a x l m0 m1 m2 la lx ll l0 l1 l2 =
-    let t0 : (less_0 0 a m0) < 512 = omega arith in
-    let c0 : bit (nat_lt 255 (less_0 0 a m0)) ≡ (less_0 0 a m0) / 256 = bit_carry (less_0 0 a m0) t0 in
-    let t1 : (less_1 0 a x m0 m1) < 512 = omega arith in
-    let c1 : bit (nat_lt 255 (less_1 0 a x m0 m1)) ≡ (less_1 0 a x m0 m1) / 256 = bit_carry (less_1 0 a x m0 m1) t1 in
-    let t2 : (less_2 0 a x l m0 m1 m2) < 512 = omega arith in
-    let c2 : bit (nat_lt 255 (less_2 0 a x l m0 m1 m2)) ≡ (less_2 0 a x l m0 m1 m2) / 256 = bit_carry (less_2 0 a x l m0 m1 m2) t2 in
-    let e : (less_2 0 a x l m0 m1 m2) / 256 ≡ (a + 256 * x + 65536 * l + (16777215 - (m0 + 256 * m1 + 65536 * m2)) + 0) / 16777216 = omega arith in
+lower : (k : Bool) (a x l m0 m1 m2 : ℕ) → a < 256 → x < 256 → l < 256 → m0 < 256 → m1 < 256 → m2 < 256
+    → bit (nat_lt 255 (less_2 (bit k) a x l m0 m1 m2)) ≡ (a + 256 * x + 65536 * l + (16777215 - (m0 + 256 * m1 + 65536 * m2)) + bit k) / 16777216
+lower k a x l m0 m1 m2 la lx ll l0 l1 l2 =
+    let c = carry_small k in
+    let t0 : less_0 (bit k) a m0 < 512 = omega arith in
+    let c0 : bit (nat_lt 255 (less_0 (bit k) a m0)) ≡ less_0 (bit k) a m0 / 256 = bit_carry (less_0 (bit k) a m0) t0 in
+    let t1 : less_1 (bit k) a x m0 m1 < 512 = omega arith in
+    let c1 : bit (nat_lt 255 (less_1 (bit k) a x m0 m1)) ≡ less_1 (bit k) a x m0 m1 / 256 = bit_carry (less_1 (bit k) a x m0 m1) t1 in
+    let t2 : less_2 (bit k) a x l m0 m1 m2 < 512 = omega arith in
+    let c2 : bit (nat_lt 255 (less_2 (bit k) a x l m0 m1 m2)) ≡ less_2 (bit k) a x l m0 m1 m2 / 256 = bit_carry (less_2 (bit k) a x l m0 m1 m2) t2 in
+    let e : less_2 (bit k) a x l m0 m1 m2 / 256 ≡ (a + 256 * x + 65536 * l + (16777215 - (m0 + 256 * m1 + 65536 * m2)) + bit k) / 16777216 = omega arith in
     c2 ∙ e
 
-pub long_clc : (a x l h m0 m1 m2 m3 : ℕ) → a < 256 → x < 256 → l < 256 → h < 256 → m0 < 256 → m1 < 256 → m2 < 256 → m3 < 256 → nat_lt 255 (less_3 0 a x l h m0 m1 m2 m3) ≡ nat_lt (m0 + 256 * m1 + 65536 * (m2 + 256 * m3)) (a + 256 * x + 65536 * (l + 256 * h))
-long_clc a x l h m0 m1 m2 m3 la lx ll lh l0 l1 l2 l3 =
-    let t0 : (less_0 0 a m0) < 512 = omega arith in
-    let c0 : bit (nat_lt 255 (less_0 0 a m0)) ≡ (less_0 0 a m0) / 256 = bit_carry (less_0 0 a m0) t0 in
-    let t1 : (less_1 0 a x m0 m1) < 512 = omega arith in
-    let c1 : bit (nat_lt 255 (less_1 0 a x m0 m1)) ≡ (less_1 0 a x m0 m1) / 256 = bit_carry (less_1 0 a x m0 m1) t1 in
-    let t2 : (less_2 0 a x l m0 m1 m2) < 512 = omega arith in
-    let c2 : bit (nat_lt 255 (less_2 0 a x l m0 m1 m2)) ≡ (less_2 0 a x l m0 m1 m2) / 256 = bit_carry (less_2 0 a x l m0 m1 m2) t2 in
-    le_same 256 (less_3 0 a x l h m0 m1 m2 m3) (suc (m0 + 256 * m1 + 65536 * (m2 + 256 * m3))) (a + 256 * x + 65536 * (l + 256 * h)) (λ g. omega arith) (λ g. omega arith)
+pub long_less : (k : Bool) (a x l h m0 m1 m2 m3 : ℕ) → a < 256 → x < 256 → l < 256 → h < 256 → m0 < 256 → m1 < 256 → m2 < 256 → m3 < 256
+    → nat_lt 255 (less_3 (bit k) a x l h m0 m1 m2 m3) ≡ less k (m0 + 256 * m1 + 65536 * (m2 + 256 * m3)) (a + 256 * x + 65536 * (l + 256 * h))
+long_less k a x l h m0 m1 m2 m3 la lx ll lh l0 l1 l2 l3 =
+    let c = carry_small k in
+    let carry = lower k a x l m0 m1 m2 la lx ll l0 l1 l2 in
+    le_same 256 (less_3 (bit k) a x l h m0 m1 m2 m3) (suc (m0 + 256 * m1 + 65536 * (m2 + 256 * m3))) (bit k + (a + 256 * x + 65536 * (l + 256 * h))) (λ g. omega arith) (λ g. omega arith)
+    ∙ less_is k (m0 + 256 * m1 + 65536 * (m2 + 256 * m3)) (a + 256 * x + 65536 * (l + 256 * h))
 
-pub word_signed_clc : (a x m0 m1 : ℕ) → a < 256 → x < 256 → m0 < 256 → m1 < 256 → flipped (overflow x (255 - m1) (less_1 0 a x m0 m1)) (negative ((less_1 0 a x m0 m1) % 256)) ≡ nat_le (turned Ax (a + 256 * x)) (turned Ax (m0 + 256 * m1))
-word_signed_clc a x m0 m1 la lx l0 l1 =
-    let small : (less_0 0 a m0) < 512 = omega arith in
-    let c0 : bit (nat_lt 255 (less_0 0 a m0)) ≡ (less_0 0 a m0) / 256 = bit_carry (less_0 0 a m0) small in
+-- N, turned where V is set, is set where the signed number is not below
+pub word_signed : (k : Bool) (a x m0 m1 : ℕ) → a < 256 → x < 256 → m0 < 256 → m1 < 256
+    → flipped (overflow x (255 - m1) (less_1 (bit k) a x m0 m1)) (negative (less_1 (bit k) a x m0 m1 % 256)) ≡ not (less k (turned Ax (m0 + 256 * m1)) (turned Ax (a + 256 * x)))
+word_signed k a x m0 m1 la lx l0 l1 =
+    let c = carry_small k in
+    let t0 : less_0 (bit k) a m0 < 512 = omega arith in
+    let c0 : bit (nat_lt 255 (less_0 (bit k) a m0)) ≡ less_0 (bit k) a m0 / 256 = bit_carry (less_0 (bit k) a m0) t0 in
     let part : 255 - m1 < 256 = omega arith in
-    let carry : bit (nat_lt 255 (less_0 0 a m0)) ≤ 1 = omega arith in
-    let is_a : (turned Ax (a + 256 * x)) ≡ a + 256 * ((x + 128) % 256) = omega arith in
-    let is_t : (turned Ax (m0 + 256 * m1)) ≡ m0 + 256 * ((m1 + 128) % 256) = omega arith in
+    let carry : bit (nat_lt 255 (less_0 (bit k) a m0)) ≤ 1 = omega arith in
+    let is_a : turned Ax (a + 256 * x) ≡ a + 256 * ((x + 128) % 256) = omega arith in
+    let is_t : turned Ax (m0 + 256 * m1) ≡ m0 + 256 * ((m1 + 128) % 256) = omega arith in
     let is_part : (255 - m1 + 128) % 256 ≡ 255 - (m1 + 128) % 256 = omega arith in
     let high_a : (x + 128) % 256 < 256 = omega arith in
     let high_t : (m1 + 128) % 256 < 256 = omega arith in
-    sign_of_sum x (255 - m1) (bit (nat_lt 255 (less_0 0 a m0))) lx part carry
-    ∙ le_same (suc ((x + 128) % 256 + (255 - m1 + 128) % 256 + bit (nat_lt 255 (less_0 0 a m0)))) 256 (turned Ax (a + 256 * x)) (turned Ax (m0 + 256 * m1)) (λ g. omega arith) (λ g. omega arith)
+    sign_of_sum x (255 - m1) (bit (nat_lt 255 (less_0 (bit k) a m0))) lx part carry
+    ∙ (le_same (suc ((x + 128) % 256 + (255 - m1 + 128) % 256 + bit (nat_lt 255 (less_0 (bit k) a m0)))) 256 (bit k + turned Ax (a + 256 * x)) (turned Ax (m0 + 256 * m1)) (λ g. omega arith) (λ g. omega arith)
+    ∙ (not_le (bit k + turned Ax (a + 256 * x)) (turned Ax (m0 + 256 * m1)) ∙ ap not (less_is k (turned Ax (m0 + 256 * m1)) (turned Ax (a + 256 * x)))))
 
-pub long_signed_clc : (a x l h m0 m1 m2 m3 : ℕ) → a < 256 → x < 256 → l < 256 → h < 256 → m0 < 256 → m1 < 256 → m2 < 256 → m3 < 256
-    → flipped (overflow h (255 - m3) (less_3 0 a x l h m0 m1 m2 m3)) (negative ((less_3 0 a x l h m0 m1 m2 m3) % 256)) ≡ nat_le (turned Eax (a + 256 * x + 65536 * (l + 256 * h))) (turned Eax (m0 + 256 * m1 + 65536 * (m2 + 256 * m3)))
-long_signed_clc a x l h m0 m1 m2 m3 la lx ll lh l0 l1 l2 l3 =
-    let carry_is = lower_clc a x l m0 m1 m2 la lx ll l0 l1 l2 in
+pub long_signed : (k : Bool) (a x l h m0 m1 m2 m3 : ℕ) → a < 256 → x < 256 → l < 256 → h < 256 → m0 < 256 → m1 < 256 → m2 < 256 → m3 < 256
+    → flipped (overflow h (255 - m3) (less_3 (bit k) a x l h m0 m1 m2 m3)) (negative (less_3 (bit k) a x l h m0 m1 m2 m3 % 256)) ≡ not (less k (turned Eax (m0 + 256 * m1 + 65536 * (m2 + 256 * m3))) (turned Eax (a + 256 * x + 65536 * (l + 256 * h))))
+long_signed k a x l h m0 m1 m2 m3 la lx ll lh l0 l1 l2 l3 =
+    let c = carry_small k in
+    let p : ℕ = a + 256 * x + 65536 * (l + 256 * h) in
+    let t : ℕ = m0 + 256 * m1 + 65536 * (m2 + 256 * m3) in
+    let carry_is = lower k a x l m0 m1 m2 la lx ll l0 l1 l2 in
     let part : 255 - m3 < 256 = omega arith in
-    let carry : bit (nat_lt 255 (less_2 0 a x l m0 m1 m2)) ≤ 1 = omega arith in
-    let is_a : (turned Eax (a + 256 * x + 65536 * (l + 256 * h))) ≡ a + 256 * x + 65536 * l + 16777216 * ((h + 128) % 256) = omega arith in
-    let is_t : (turned Eax (m0 + 256 * m1 + 65536 * (m2 + 256 * m3))) ≡ m0 + 256 * m1 + 65536 * m2 + 16777216 * ((m3 + 128) % 256) = omega arith in
+    let carry : bit (nat_lt 255 (less_2 (bit k) a x l m0 m1 m2)) ≤ 1 = omega arith in
+    let is_a : turned Eax p ≡ a + 256 * x + 65536 * l + 16777216 * ((h + 128) % 256) = omega arith in
+    let is_t : turned Eax t ≡ m0 + 256 * m1 + 65536 * m2 + 16777216 * ((m3 + 128) % 256) = omega arith in
     let is_part : (255 - m3 + 128) % 256 ≡ 255 - (m3 + 128) % 256 = omega arith in
-    sign_of_sum h (255 - m3) (bit (nat_lt 255 (less_2 0 a x l m0 m1 m2))) lh part carry
-    ∙ le_same (suc ((h + 128) % 256 + (255 - m3 + 128) % 256 + bit (nat_lt 255 (less_2 0 a x l m0 m1 m2)))) 256 (turned Eax (a + 256 * x + 65536 * (l + 256 * h))) (turned Eax (m0 + 256 * m1 + 65536 * (m2 + 256 * m3))) (λ g. omega arith) (λ g. omega arith)
-
-pub word_sec : (a x m0 m1 : ℕ) → a < 256 → x < 256 → m0 < 256 → m1 < 256 → nat_lt 255 (less_1 1 a x m0 m1) ≡ nat_le (m0 + 256 * m1) (a + 256 * x)
-word_sec a x m0 m1 la lx l0 l1 =
-    let small : (less_0 1 a m0) < 512 = omega arith in
-    let c0 : bit (nat_lt 255 (less_0 1 a m0)) ≡ (less_0 1 a m0) / 256 = bit_carry (less_0 1 a m0) small in
-    le_same 256 (less_1 1 a x m0 m1) (m0 + 256 * m1) (a + 256 * x) (λ g. omega arith) (λ g. omega arith)
-
--- the carry out of the lower three bytes
-lower_sec : (a x l m0 m1 m2 : ℕ) → a < 256 → x < 256 → l < 256 → m0 < 256 → m1 < 256 → m2 < 256
-    → bit (nat_lt 255 (less_2 1 a x l m0 m1 m2)) ≡ (a + 256 * x + 65536 * l + (16777215 - (m0 + 256 * m1 + 65536 * m2)) + 1) / 16777216
-lower_sec a x l m0 m1 m2 la lx ll l0 l1 l2 =
-    let t0 : (less_0 1 a m0) < 512 = omega arith in
-    let c0 : bit (nat_lt 255 (less_0 1 a m0)) ≡ (less_0 1 a m0) / 256 = bit_carry (less_0 1 a m0) t0 in
-    let t1 : (less_1 1 a x m0 m1) < 512 = omega arith in
-    let c1 : bit (nat_lt 255 (less_1 1 a x m0 m1)) ≡ (less_1 1 a x m0 m1) / 256 = bit_carry (less_1 1 a x m0 m1) t1 in
-    let t2 : (less_2 1 a x l m0 m1 m2) < 512 = omega arith in
-    let c2 : bit (nat_lt 255 (less_2 1 a x l m0 m1 m2)) ≡ (less_2 1 a x l m0 m1 m2) / 256 = bit_carry (less_2 1 a x l m0 m1 m2) t2 in
-    let e : (less_2 1 a x l m0 m1 m2) / 256 ≡ (a + 256 * x + 65536 * l + (16777215 - (m0 + 256 * m1 + 65536 * m2)) + 1) / 16777216 = omega arith in
-    c2 ∙ e
-
-pub long_sec : (a x l h m0 m1 m2 m3 : ℕ) → a < 256 → x < 256 → l < 256 → h < 256 → m0 < 256 → m1 < 256 → m2 < 256 → m3 < 256 → nat_lt 255 (less_3 1 a x l h m0 m1 m2 m3) ≡ nat_le (m0 + 256 * m1 + 65536 * (m2 + 256 * m3)) (a + 256 * x + 65536 * (l + 256 * h))
-long_sec a x l h m0 m1 m2 m3 la lx ll lh l0 l1 l2 l3 =
-    let t0 : (less_0 1 a m0) < 512 = omega arith in
-    let c0 : bit (nat_lt 255 (less_0 1 a m0)) ≡ (less_0 1 a m0) / 256 = bit_carry (less_0 1 a m0) t0 in
-    let t1 : (less_1 1 a x m0 m1) < 512 = omega arith in
-    let c1 : bit (nat_lt 255 (less_1 1 a x m0 m1)) ≡ (less_1 1 a x m0 m1) / 256 = bit_carry (less_1 1 a x m0 m1) t1 in
-    let t2 : (less_2 1 a x l m0 m1 m2) < 512 = omega arith in
-    let c2 : bit (nat_lt 255 (less_2 1 a x l m0 m1 m2)) ≡ (less_2 1 a x l m0 m1 m2) / 256 = bit_carry (less_2 1 a x l m0 m1 m2) t2 in
-    le_same 256 (less_3 1 a x l h m0 m1 m2 m3) (m0 + 256 * m1 + 65536 * (m2 + 256 * m3)) (a + 256 * x + 65536 * (l + 256 * h)) (λ g. omega arith) (λ g. omega arith)
-
-pub word_signed_sec : (a x m0 m1 : ℕ) → a < 256 → x < 256 → m0 < 256 → m1 < 256 → flipped (overflow x (255 - m1) (less_1 1 a x m0 m1)) (negative ((less_1 1 a x m0 m1) % 256)) ≡ nat_lt (turned Ax (a + 256 * x)) (turned Ax (m0 + 256 * m1))
-word_signed_sec a x m0 m1 la lx l0 l1 =
-    let small : (less_0 1 a m0) < 512 = omega arith in
-    let c0 : bit (nat_lt 255 (less_0 1 a m0)) ≡ (less_0 1 a m0) / 256 = bit_carry (less_0 1 a m0) small in
-    let part : 255 - m1 < 256 = omega arith in
-    let carry : bit (nat_lt 255 (less_0 1 a m0)) ≤ 1 = omega arith in
-    let is_a : (turned Ax (a + 256 * x)) ≡ a + 256 * ((x + 128) % 256) = omega arith in
-    let is_t : (turned Ax (m0 + 256 * m1)) ≡ m0 + 256 * ((m1 + 128) % 256) = omega arith in
-    let is_part : (255 - m1 + 128) % 256 ≡ 255 - (m1 + 128) % 256 = omega arith in
-    let high_a : (x + 128) % 256 < 256 = omega arith in
-    let high_t : (m1 + 128) % 256 < 256 = omega arith in
-    sign_of_sum x (255 - m1) (bit (nat_lt 255 (less_0 1 a m0))) lx part carry
-    ∙ le_same (suc ((x + 128) % 256 + (255 - m1 + 128) % 256 + bit (nat_lt 255 (less_0 1 a m0)))) 256 (suc (turned Ax (a + 256 * x))) (turned Ax (m0 + 256 * m1)) (λ g. omega arith) (λ g. omega arith)
-
-pub long_signed_sec : (a x l h m0 m1 m2 m3 : ℕ) → a < 256 → x < 256 → l < 256 → h < 256 → m0 < 256 → m1 < 256 → m2 < 256 → m3 < 256
-    → flipped (overflow h (255 - m3) (less_3 1 a x l h m0 m1 m2 m3)) (negative ((less_3 1 a x l h m0 m1 m2 m3) % 256)) ≡ nat_lt (turned Eax (a + 256 * x + 65536 * (l + 256 * h))) (turned Eax (m0 + 256 * m1 + 65536 * (m2 + 256 * m3)))
-long_signed_sec a x l h m0 m1 m2 m3 la lx ll lh l0 l1 l2 l3 =
-    let carry_is = lower_sec a x l m0 m1 m2 la lx ll l0 l1 l2 in
-    let part : 255 - m3 < 256 = omega arith in
-    let carry : bit (nat_lt 255 (less_2 1 a x l m0 m1 m2)) ≤ 1 = omega arith in
-    let is_a : (turned Eax (a + 256 * x + 65536 * (l + 256 * h))) ≡ a + 256 * x + 65536 * l + 16777216 * ((h + 128) % 256) = omega arith in
-    let is_t : (turned Eax (m0 + 256 * m1 + 65536 * (m2 + 256 * m3))) ≡ m0 + 256 * m1 + 65536 * m2 + 16777216 * ((m3 + 128) % 256) = omega arith in
-    let is_part : (255 - m3 + 128) % 256 ≡ 255 - (m3 + 128) % 256 = omega arith in
-    sign_of_sum h (255 - m3) (bit (nat_lt 255 (less_2 1 a x l m0 m1 m2))) lh part carry
-    ∙ le_same (suc ((h + 128) % 256 + (255 - m3 + 128) % 256 + bit (nat_lt 255 (less_2 1 a x l m0 m1 m2)))) 256 (suc (turned Eax (a + 256 * x + 65536 * (l + 256 * h)))) (turned Eax (m0 + 256 * m1 + 65536 * (m2 + 256 * m3))) (λ g. omega arith) (λ g. omega arith)
+    sign_of_sum h (255 - m3) (bit (nat_lt 255 (less_2 (bit k) a x l m0 m1 m2))) lh part carry
+    ∙ (le_same (suc ((h + 128) % 256 + (255 - m3 + 128) % 256 + bit (nat_lt 255 (less_2 (bit k) a x l m0 m1 m2)))) 256 (bit k + turned Eax p) (turned Eax t) (λ g. omega arith) (λ g. omega arith)
+    ∙ (not_le (bit k + turned Eax p) (turned Eax t) ∙ ap not (less_is k (turned Eax t) (turned Eax p))))

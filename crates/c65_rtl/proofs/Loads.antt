@@ -1,7 +1,6 @@
 -- The routines that load from the software stack, and those that pop.
 use Rattle.std.proofs.Common.{◌≡◌, ℕ, ◌+◌, ◌-◌, ◌*◌, ◌/◌, ◌%◌, ◌<◌, Bool, List, [], ◌∷◌, Some, None, refl, sym, ap, subst, ◌∙◌, arith}
 use Rattle.std.specs.Prelude.{nat_le}
-use Rattle.std.proofs.lemmas.List.{append-nil}
 use Rattle.c65_mach.specs.declared.rows.Op.TheVariants.{Dey, Lda, Ldy, Rts, Sta, Tax}
 use Rattle.c65_code.specs.declared.routine.Routine.{Routine}
 use Rattle.c65_code.specs.declared.routine.Routine.TheVariants as routines
@@ -15,9 +14,10 @@ use Rattle.c65_rtl.specs.Assembly.{sp, sreg, implied, value, zero_page, by_y}
 use Rattle.c65_rtl.specs.Stack.{raise_one, raise_two}
 use Rattle.c65_rtl.specs.Routines.{lines_of}
 use Rattle.c65_rtl.proofs.Ways.{leads, Ends, runs}
-use Rattle.c65_rtl.proofs.Meeting.{lt_true, ends_by}
+use Rattle.c65_rtl.proofs.Meeting.{lt_true}
+use Rattle.c65_rtl.proofs.Plain.{ends_plain}
 use Rattle.c65_rtl.proofs.Opens.{OpenBytes, opens_near}
-use Rattle.c65_rtl.proofs.SpPieces.{left, raise_one_at, raise_two_at}
+use Rattle.c65_rtl.proofs.SpPieces.{raise_one_at, raise_two_at}
 use Rattle.c65_rtl.proofs.Pushes.{meets_by, sreg_kept}
 use Rattle.c65_rtl.proofs.SpMoves.{with_y_at}
 
@@ -93,25 +93,8 @@ loads_ax_y s has back t may =
     runs s routines.LdAxYSp (ldaxysp_row t) back t (load_word_on (implied Rts ∷ [])) has (record { onward = refl; weight = refl; depth = refl }) refl may
     (load_word_at s.place (reach_of t) (Ends (ldaxysp_row t) t) (implied Rts ∷ []) at (called back t) (omega arith) (omega arith) (bytes.first two) (bytes.reach 1 one)
     (λ a x y n z is_a is_x. returns_at s.place (reach_of t) (Ends (ldaxysp_row t) t) (record (called back t) { regs = record t.regs { a = a; x = x; y = y; n = n; z = z } })
-    (ends_by (ldaxysp_row t) t (left (called back t) a x y n t.regs.v z t.regs.c t.zp t.mem) [] (record {
-      zp = λ i two. refl;
-      fit = refl;
-      small = (refl, refl, refl, refl, refl);
-      low_kept = refl;
-      high_kept = refl;
-      a_kept = tt;
-      x_kept = tt;
-      sp = refl;
-      a = is_a ∙ sym (word_low (t.mem at) (t.mem (at + 1)) low);
-      x = is_x ∙ sym (word_high (t.mem at) (t.mem (at + 1)) low high);
-      sreg = refl;
-      pointers = tt;
-      bank = tt;
-      mem = λ b h. refl;
-      input = refl;
-      output = sym (append-nil t.output);
-      ended = may.running;
-    }))))
+    (ends_plain (ldaxysp_row t) back t a x y n t.regs.v z t.regs.c t.zp t.mem [] refl may.running (tt, tt, refl, refl) (λ i two. refl)
+    refl (is_a ∙ sym (word_low (t.mem at) (t.mem (at + 1)) low), is_x ∙ sym (word_high (t.mem at) (t.mem (at + 1)) low high), refl) (λ b h. refl))))
 
 abbrev ldax0sp_row : State → Row
 ldax0sp_row t = word_row routines.LdAx0Sp (sp_of t) t
@@ -129,25 +112,8 @@ loads_ax_0 s has back t may =
     (with_y_at s.place (reach_of t) (Ends (ldax0sp_row t) t) 1 (load_word_on (implied Rts ∷ [])) (called back t) (λ m w.
     load_word_at s.place (reach_of t) (Ends (ldax0sp_row t) t) (implied Rts ∷ []) (sp_of t) (record (called back t) { regs = record t.regs { y = 1; n = m; z = w } }) (omega arith) (omega arith) (bytes.first two) (bytes.reach 1 one)
     (λ a x y n z is_a is_x. returns_at s.place (reach_of t) (Ends (ldax0sp_row t) t) (record (called back t) { regs = record t.regs { a = a; x = x; y = y; n = n; z = z } })
-    (ends_by (ldax0sp_row t) t (left (called back t) a x y n t.regs.v z t.regs.c t.zp t.mem) [] (record {
-      zp = λ i two. refl;
-      fit = refl;
-      small = (refl, refl, refl, refl, refl);
-      low_kept = refl;
-      high_kept = refl;
-      a_kept = tt;
-      x_kept = tt;
-      sp = refl;
-      a = is_a ∙ sym (word_low (t.mem (sp_of t)) (t.mem (sp_of t + 1)) low);
-      x = is_x ∙ sym (word_high (t.mem (sp_of t)) (t.mem (sp_of t + 1)) low high);
-      sreg = refl;
-      pointers = tt;
-      bank = tt;
-      mem = λ b h. refl;
-      input = refl;
-      output = sym (append-nil t.output);
-      ended = may.running;
-    })))))
+    (ends_plain (ldax0sp_row t) back t a x y n t.regs.v z t.regs.c t.zp t.mem [] refl may.running (tt, tt, refl, refl) (λ i two. refl)
+    refl (is_a ∙ sym (word_low (t.mem (sp_of t)) (t.mem (sp_of t + 1)) low), is_x ∙ sym (word_high (t.mem (sp_of t)) (t.mem (sp_of t + 1)) low high), refl) (λ b h. refl)))))
 
 -- popax
 abbrev popax_row : State → Row
@@ -166,25 +132,8 @@ pops_ax s has back t may =
     (with_y_at s.place (reach_of t) (Ends (popax_row t) t) 1 (load_word_on raise_two) (called back t) (λ m w.
     load_word_at s.place (reach_of t) (Ends (popax_row t) t) raise_two (sp_of t) (record (called back t) { regs = record t.regs { y = 1; n = m; z = w } }) (omega arith) (omega arith) (bytes.first two) (bytes.reach 1 one)
     (λ a x y n z is_a is_x. raise_two_at s.place (reach_of t) (Ends (popax_row t) t) (record (called back t) { regs = record t.regs { a = a; x = x; y = y; n = n; z = z } }) (may.bytes.zp 0) (may.bytes.zp 1) (omega arith)
-    (λ y n v z c zp moved. ends_by (popax_row t) t (left (called back t) a x y n v z c zp t.mem) [] (record {
-      zp = moved.rest;
-      fit = refl;
-      small = (refl, refl, refl, refl, refl);
-      low_kept = tt;
-      high_kept = tt;
-      a_kept = tt;
-      x_kept = tt;
-      sp = moved.sp;
-      a = is_a ∙ sym (word_low (t.mem (sp_of t)) (t.mem (sp_of t + 1)) low);
-      x = is_x ∙ sym (word_high (t.mem (sp_of t)) (t.mem (sp_of t + 1)) low high);
-      sreg = sreg_kept _ _ _ moved;
-      pointers = tt;
-      bank = tt;
-      mem = λ b h. refl;
-      input = refl;
-      output = sym (append-nil t.output);
-      ended = may.running;
-    })))))
+    (λ y n v z c zp moved. ends_plain (popax_row t) back t a x y n v z c zp t.mem [] refl may.running (tt, tt, tt, tt) moved.rest
+    moved.sp (is_a ∙ sym (word_low (t.mem (sp_of t)) (t.mem (sp_of t + 1)) low), is_x ∙ sym (word_high (t.mem (sp_of t)) (t.mem (sp_of t + 1)) low high), sreg_kept _ _ _ moved) (λ b h. refl)))))
 
 -- popa
 top_byte_at : (place : Placement) (bounds : Bounds) (P : State → Type 0) (rest : List Line) (u : State)
@@ -206,25 +155,8 @@ pops_a s has back t may =
     runs s routines.PopA (popa_row t) back t (value Ldy 0 ∷ by_y Lda sp ∷ raise_one) has (record { onward = refl; weight = refl; depth = refl }) refl may
     (top_byte_at s.place (reach_of t) (Ends (popa_row t) t) raise_one (called back t) (omega arith) (bytes.first one)
     (λ a n z is_a. raise_one_at s.place (reach_of t) (Ends (popa_row t) t) (record (called back t) { regs = record t.regs { a = a; y = 0; n = n; z = z } }) (may.bytes.zp 0) (may.bytes.zp 1) (omega arith)
-    (λ y n v z c zp moved. ends_by (popa_row t) t (left (called back t) a t.regs.x y n v z c zp t.mem) [] (record {
-      zp = moved.rest;
-      fit = refl;
-      small = (refl, refl, refl, refl, refl);
-      low_kept = tt;
-      high_kept = tt;
-      a_kept = tt;
-      x_kept = refl;
-      sp = moved.sp;
-      a = is_a;
-      x = refl;
-      sreg = sreg_kept _ _ _ moved;
-      pointers = tt;
-      bank = tt;
-      mem = λ b h. refl;
-      input = refl;
-      output = sym (append-nil t.output);
-      ended = may.running;
-    }))))
+    (λ y n v z c zp moved. ends_plain (popa_row t) back t a t.regs.x y n v z c zp t.mem [] refl may.running (tt, refl, tt, tt) moved.rest
+    moved.sp (is_a, refl, sreg_kept _ _ _ moved) (λ b h. refl))))
 
 pub ldaxysp : (s : RawSetting) → s.lines (s.routine routines.LdAxYSp) ≡ lines_of routines.LdAxYSp → MeetsRow s routines.LdAxYSp
 ldaxysp s has = meets_by s routines.LdAxYSp ldaxysp_row (λ t. refl) (loads_ax_y s has)

@@ -15,6 +15,7 @@ use Rattle.c65_rtl.specs.Stack.{raise_by_y, push_long}
 use Rattle.c65_rtl.specs.Routines.{lines_of}
 use Rattle.c65_rtl.proofs.Ways.{leads, Ends, runs}
 use Rattle.c65_rtl.proofs.Meeting.{ends_by, write_swap}
+use Rattle.c65_rtl.proofs.Plain.{ends_plain}
 use Rattle.c65_rtl.proofs.Opens.{OpenBytes, opens_near}
 use Rattle.c65_rtl.proofs.SpPieces.{left, lowers_by}
 use Rattle.c65_rtl.proofs.Pushes.{meets_by, write_where, write_cong, sreg_kept}
@@ -103,26 +104,9 @@ pushes_eax s has back t may =
     (λ n y mem stored.
     let l : zp 2 ≡ t.zp 2 = moved.rest 2 (omega arith) in
     let h : zp 3 ≡ t.zp 3 = moved.rest 3 (omega arith) in
-    ends_by (pusheax_row t) t (left (called back t) t.regs.a t.regs.x 0 n w y c zp mem) [] (record {
-      zp = moved.rest;
-      fit = refl;
-      small = (refl, refl, refl, refl, refl);
-      low_kept = tt;
-      high_kept = tt;
-      a_kept = refl;
-      x_kept = refl;
-      sp = moved.sp;
-      a = refl;
-      x = refl;
-      sreg = sreg_kept _ _ _ moved;
-      pointers = tt;
-      bank = tt;
-      mem = λ b i. stored b ∙ ap (λ (k : ℕ). write (write (write (write t.mem (sp_of t - 4) t.regs.a) (sp_of t - 4 + 1) t.regs.x) (sp_of t - 4 + 1 + 1) k) (sp_of t - 4 + 1 + 1 + 1) (zp 3) b) l
-          ∙ ap (λ (k : ℕ). write (write (write (write t.mem (sp_of t - 4) t.regs.a) (sp_of t - 4 + 1) t.regs.x) (sp_of t - 4 + 1 + 1) (t.zp 2)) (sp_of t - 4 + 1 + 1 + 1) k b) h;
-      input = refl;
-      output = sym (append-nil t.output);
-      ended = may.running;
-    }))))
+    ends_plain (pusheax_row t) back t t.regs.a t.regs.x 0 n w y c zp mem [] refl may.running (refl, refl, tt, tt) moved.rest
+    moved.sp (refl, refl, sreg_kept _ _ _ moved) (λ b i. stored b ∙ ap (λ (k : ℕ). write (write (write (write t.mem (sp_of t - 4) t.regs.a) (sp_of t - 4 + 1) t.regs.x) (sp_of t - 4 + 1 + 1) k) (sp_of t - 4 + 1 + 1 + 1) (zp 3) b) l
+    ∙ ap (λ (k : ℕ). write (write (write (write t.mem (sp_of t - 4) t.regs.a) (sp_of t - 4 + 1) t.regs.x) (sp_of t - 4 + 1 + 1) (t.zp 2)) (sp_of t - 4 + 1 + 1 + 1) k b) h))))
 
 -- the bytes of a number of 32 bits at an address
 pub record IsLong (m : Bytes) (at : ℕ) (low high upper_low upper_high : ℕ) : Type 0 where
@@ -164,25 +148,8 @@ loads_eax_y s has back t may =
     (record (called back t) { regs = record t.regs { a = b; y = ((t.regs.y + 255) % 256 + 255) % 256; n = m; z = w }; zp = write (write t.zp 3 h) 2 l }) (omega arith) (omega arith) (bytes.first k0) (bytes.reach 1 k1)
     (λ a x y n z is_a is_x. returns_at s.place (reach_of t) (Ends (ldeaxysp_row t) t) (record (called back t) { regs = record t.regs { a = a; x = x; y = y; n = n; z = z }; zp = write (write t.zp 3 h) 2 l })
     (let long : IsLong t.mem at a x l h = is_long t.mem at a x l h may.bytes.mem is_a is_x is_l is_h in
-    ends_by (ldeaxysp_row t) t (left (called back t) a x y n t.regs.v z t.regs.c (write (write t.zp 3 h) 2 l) t.mem) ((3, h) ∷ (2, l) ∷ []) (record {
-      zp = λ i two. refl;
-      fit = refl;
-      small = (refl, refl, refl, refl, refl);
-      low_kept = refl;
-      high_kept = refl;
-      a_kept = tt;
-      x_kept = tt;
-      sp = refl;
-      a = long.a;
-      x = long.x;
-      sreg = long.sreg;
-      pointers = tt;
-      bank = tt;
-      mem = λ b h. refl;
-      input = refl;
-      output = sym (append-nil t.output);
-      ended = may.running;
-    })))))
+    ends_plain (ldeaxysp_row t) back t a x y n t.regs.v z t.regs.c (write (write t.zp 3 h) 2 l) t.mem ((3, h) ∷ (2, l) ∷ []) refl may.running (tt, tt, refl, refl) (λ i two. refl)
+    refl (long.a, long.x, long.sreg) (λ b h. refl)))))
 
 -- popeax
 abbrev popeax_row : State → Row
@@ -210,25 +177,8 @@ pops_eax s has back t may =
     (λ a x y n z is_a is_x.
     let long : IsLong t.mem (sp_of t) a x l h = is_long t.mem (sp_of t) a x l h may.bytes.mem is_a is_x is_l is_h in
     raise_by_at s.place (reach_of t) P 4 (record (called back t) { regs = record t.regs { a = a; x = x; y = y; n = n; z = z }; zp = write (write t.zp 3 h) 2 l }) (may.bytes.zp 0) (may.bytes.zp 1) (omega arith) (omega arith)
-    (λ y n v z c zp moved. ends_by (popeax_row t) t (left (called back t) a x y n v z c zp t.mem) ((3, h) ∷ (2, l) ∷ []) (record {
-      zp = moved.rest;
-      fit = refl;
-      small = (refl, refl, refl, refl, refl);
-      low_kept = tt;
-      high_kept = tt;
-      a_kept = tt;
-      x_kept = tt;
-      sp = moved.sp;
-      a = long.a;
-      x = long.x;
-      sreg = sreg_kept _ _ _ moved ∙ long.sreg;
-      pointers = tt;
-      bank = tt;
-      mem = λ b h. refl;
-      input = refl;
-      output = sym (append-nil t.output);
-      ended = may.running;
-    }))))))
+    (λ y n v z c zp moved. ends_plain (popeax_row t) back t a x y n v z c zp t.mem ((3, h) ∷ (2, l) ∷ []) refl may.running (tt, tt, tt, tt) moved.rest
+    moved.sp (long.a, long.x, sreg_kept _ _ _ moved ∙ long.sreg) (λ b h. refl))))))
 
 -- the words at sp go to ptr1 and ptr2
 abbrev pointers_on : List Line → List Line

@@ -101,7 +101,7 @@ pub record Leaves (row : Row) (t u : State) (ws : List (ℕ × ℕ)) : Type 0 wh
   pub sreg : Gives row.sreg (sreg_of u)
   pub pointers : GivesPointers row.pointers u.zp
   pub bank : GivesBank row.bank u.zp
-  pub mem : (b : ℕ) → (b + row.room < sp_of t) ⊎ ((sp_of t ≤ b) ⊎ (row.sp ≤ b)) → u.mem b ≡ written t.mem row.writes b
+  pub mem : (b : ℕ) → (b + row.room < sp_of t) ⊎ ((sp_of t ≤ b) ⊎ (row.settled ≤ b)) → u.mem b ≡ written t.mem row.writes b
   pub input : u.input ≡ drop row.taken t.input
   pub output : u.output ≡ t.output ++ row.out
   pub ended : u.ended ≡ row.ends

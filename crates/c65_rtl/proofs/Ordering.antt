@@ -1,15 +1,19 @@
 -- The pieces of lines that compare TOS with the primary register.
-use Rattle.std.proofs.Common.{◌≡◌, ℕ, ◌+◌, ◌-◌, ◌*◌, ◌%◌, ◌<◌, Bool, true, false, List, ◌∷◌, None, refl, sym, ap, ◌∙◌}
+use Rattle.std.proofs.Common.{◌≡◌, ℕ, ◌+◌, ◌-◌, ◌*◌, ◌%◌, ◌<◌, Bool, true, false, List, ◌∷◌, None, refl, sym, ap, subst, ◌∙◌}
 use Rattle.std.specs.Prelude.{◌==◌, if◌then◌else◌, nat_lt, bit_or, bit_xor}
-use Rattle.c65_mach.specs.Step.{bit, is_not, negative}
-use Rattle.c65_mach.specs.declared.rows.Op.TheVariants.{Bcc, Bcs, Beq, Bmi, Bne, Bpl, Bvc, Clc, Eor, Iny, Lda, Ldx, Ldy, Ora, Sbc, Sec, Sta, Txa}
+use Rattle.c65_mach.specs.Step.{bit, negative, is_taken, kind_of}
+use Rattle.c65_mach.specs.declared.rows.Op.{Op}
+use Rattle.c65_mach.specs.declared.rows.Mode.TheVariants.{Relative}
+use Rattle.c65_code.specs.declared.line.Operand.TheVariants.{To}
+use Rattle.c65_code.specs.Forms.{Form, Branch, op_form}
+use Rattle.c65_mach.specs.declared.rows.Op.TheVariants.{Bne, Bvc, Clc, Eor, Iny, Lda, Ldx, Ldy, Ora, Sbc, Sec, Sta, Txa}
 use Rattle.c65_code.specs.declared.line.Line.{Line}
 use Rattle.c65_code.specs.declared.line.Line.TheVariants.{Label}
 use Rattle.c65_code.specs.LineState.{write, State}
 use Rattle.c65_code.specs.Placement.{Placement}
 use Rattle.c65_code.specs.RawMachine.{Bounds, IsReachable}
 use Rattle.c65_rtl.specs.Assembly.{sp, sreg, tmp1, implied, value, zero_page, by_y, branch}
-use Rattle.c65_rtl.proofs.Ways.{leads}
+use Rattle.c65_rtl.proofs.Ways.{leads, by_form}
 use Rattle.c65_rtl.proofs.Meeting.{not_true, not_false}
 use Rattle.c65_rtl.proofs.Stores.{reach_as}
 use Rattle.c65_rtl.proofs.Comparisons.{less_1, overflow}
@@ -22,71 +26,17 @@ false_true P e = absurd (let f : true ≡ false = e in cc)
 abbrev pub told : State → Bool → Bool → Bool → State
 told u b n z = record u { regs = record u.regs { a = if b then 0 else 1; x = 0; n = n; z = z } }
 
-abbrev pub bne_on : List Line → List Line
-bne_on rest = branch Bne 3 ∷ value Lda 1 ∷ branch Bne 4 ∷ Label 3 ∷ value Lda 0 ∷ Label 4 ∷ value Ldx 0 ∷ rest
+-- AX = 0 where the branch is taken, else 1
+abbrev pub decide_on : Op → List Line → List Line
+decide_on taken rest = branch taken 3 ∷ value Lda 1 ∷ branch Bne 4 ∷ Label 3 ∷ value Lda 0 ∷ Label 4 ∷ value Ldx 0 ∷ rest
 
-pub bne_at : (place : Placement) (bounds : Bounds) (P : State → Type 0) (rest : List Line) (u : State)
-    → ((b : Bool) (n z : Bool) → is_not u.regs.z ≡ b → leads place bounds P rest None (told u b n z)) → leads place bounds P (bne_on rest) None u
+pub decide_at : (taken : Op) → op_form (kind_of taken) taken Relative (To 3) ≡ Branch taken 3 → (place : Placement) (bounds : Bounds) (P : State → Type 0) (rest : List Line) (u : State)
+    → ((b n z : Bool) → is_taken taken u.regs ≡ b → leads place bounds P rest None (told u b n z)) → leads place bounds P (decide_on taken rest) None u
 unfolding leads
-bne_at place bounds P rest u follows = elim [
+decide_at taken is place bounds P rest u follows = subst (λ (f : Form). by_form place bounds P f (leads place bounds P (value Lda 1 ∷ branch Bne 4 ∷ Label 3 ∷ value Lda 0 ∷ Label 4 ∷ value Ldx 0 ∷ rest)) None u) (sym is) (elim [
   | true ↦ λ e. follows true _ _ e
   | false ↦ λ e. elim [ true ↦ λ g. follows false _ _ e | false ↦ λ g. false_true _ g ]
-]
-
-abbrev pub beq_on : List Line → List Line
-beq_on rest = branch Beq 3 ∷ value Lda 1 ∷ branch Bne 4 ∷ Label 3 ∷ value Lda 0 ∷ Label 4 ∷ value Ldx 0 ∷ rest
-
-pub beq_at : (place : Placement) (bounds : Bounds) (P : State → Type 0) (rest : List Line) (u : State)
-    → ((b : Bool) (n z : Bool) → u.regs.z ≡ b → leads place bounds P rest None (told u b n z)) → leads place bounds P (beq_on rest) None u
-unfolding leads
-beq_at place bounds P rest u follows = elim [
-  | true ↦ λ e. follows true _ _ e
-  | false ↦ λ e. elim [ true ↦ λ g. follows false _ _ e | false ↦ λ g. false_true _ g ]
-]
-
-abbrev pub bmi_on : List Line → List Line
-bmi_on rest = branch Bmi 3 ∷ value Lda 1 ∷ branch Bne 4 ∷ Label 3 ∷ value Lda 0 ∷ Label 4 ∷ value Ldx 0 ∷ rest
-
-pub bmi_at : (place : Placement) (bounds : Bounds) (P : State → Type 0) (rest : List Line) (u : State)
-    → ((b : Bool) (n z : Bool) → u.regs.n ≡ b → leads place bounds P rest None (told u b n z)) → leads place bounds P (bmi_on rest) None u
-unfolding leads
-bmi_at place bounds P rest u follows = elim [
-  | true ↦ λ e. follows true _ _ e
-  | false ↦ λ e. elim [ true ↦ λ g. follows false _ _ e | false ↦ λ g. false_true _ g ]
-]
-
-abbrev pub bpl_on : List Line → List Line
-bpl_on rest = branch Bpl 3 ∷ value Lda 1 ∷ branch Bne 4 ∷ Label 3 ∷ value Lda 0 ∷ Label 4 ∷ value Ldx 0 ∷ rest
-
-pub bpl_at : (place : Placement) (bounds : Bounds) (P : State → Type 0) (rest : List Line) (u : State)
-    → ((b : Bool) (n z : Bool) → is_not u.regs.n ≡ b → leads place bounds P rest None (told u b n z)) → leads place bounds P (bpl_on rest) None u
-unfolding leads
-bpl_at place bounds P rest u follows = elim [
-  | true ↦ λ e. follows true _ _ e
-  | false ↦ λ e. elim [ true ↦ λ g. follows false _ _ e | false ↦ λ g. false_true _ g ]
-]
-
-abbrev pub bcc_on : List Line → List Line
-bcc_on rest = branch Bcc 3 ∷ value Lda 1 ∷ branch Bne 4 ∷ Label 3 ∷ value Lda 0 ∷ Label 4 ∷ value Ldx 0 ∷ rest
-
-pub bcc_at : (place : Placement) (bounds : Bounds) (P : State → Type 0) (rest : List Line) (u : State)
-    → ((b : Bool) (n z : Bool) → is_not u.regs.c ≡ b → leads place bounds P rest None (told u b n z)) → leads place bounds P (bcc_on rest) None u
-unfolding leads
-bcc_at place bounds P rest u follows = elim [
-  | true ↦ λ e. follows true _ _ e
-  | false ↦ λ e. elim [ true ↦ λ g. follows false _ _ e | false ↦ λ g. false_true _ g ]
-]
-
-abbrev pub bcs_on : List Line → List Line
-bcs_on rest = branch Bcs 3 ∷ value Lda 1 ∷ branch Bne 4 ∷ Label 3 ∷ value Lda 0 ∷ Label 4 ∷ value Ldx 0 ∷ rest
-
-pub bcs_at : (place : Placement) (bounds : Bounds) (P : State → Type 0) (rest : List Line) (u : State)
-    → ((b : Bool) (n z : Bool) → u.regs.c ≡ b → leads place bounds P rest None (told u b n z)) → leads place bounds P (bcs_on rest) None u
-unfolding leads
-bcs_at place bounds P rest u follows = elim [
-  | true ↦ λ e. follows true _ _ e
-  | false ↦ λ e. elim [ true ↦ λ g. follows false _ _ e | false ↦ λ g. false_true _ g ]
-]
+])
 
 -- A is 0 where the words are the same
 abbrev pub unlike_on : List Line → List Line
@@ -130,31 +80,20 @@ compared c u m0 m1 z =
     let sum : ℕ = less_1 c u.regs.a u.regs.x m0 m1 in
     record u { regs = record { a = sum % 256; x = u.regs.x; y = 1; n = negative (sum % 256); v = overflow u.regs.x (255 - m1) sum; z = z; c = nat_lt 255 sum } }
 
--- one more is taken off
-abbrev pub compare_clc_on : List Line → List Line
-compare_clc_on rest = implied Clc ∷ value Ldy 0 ∷ by_y Sbc sp ∷ implied Iny ∷ implied Txa ∷ by_y Sbc sp ∷ rest
+-- one more is taken off where C is clear
+abbrev pub carry_of : Bool → Op
+carry_of false = Clc
+carry_of true = Sec
 
-pub compare_clc_at : (place : Placement) (bounds : Bounds) (P : State → Type 0) (rest : List Line) (at : ℕ) (u : State) → (u.zp 0 + 256 * u.zp 1 + 0) % 65536 ≡ at → (u.zp 0 + 256 * u.zp 1 + 1) % 65536 ≡ at + 1
+abbrev pub compare_on : Bool → List Line → List Line
+compare_on k rest = implied (carry_of k) ∷ value Ldy 0 ∷ by_y Sbc sp ∷ implied Iny ∷ implied Txa ∷ by_y Sbc sp ∷ rest
+
+pub compare_at : (k : Bool) (place : Placement) (bounds : Bounds) (P : State → Type 0) (rest : List Line) (at : ℕ) (u : State) → (u.zp 0 + 256 * u.zp 1 + 0) % 65536 ≡ at → (u.zp 0 + 256 * u.zp 1 + 1) % 65536 ≡ at + 1
     → IsReachable place bounds at → IsReachable place bounds (at + 1)
-    → ((m0 m1 : ℕ) (z : Bool) → m0 ≡ u.mem at → m1 ≡ u.mem (at + 1) → leads place bounds P rest None (compared 0 u m0 m1 z)) → leads place bounds P (compare_clc_on rest) None u
+    → ((m0 m1 : ℕ) (z : Bool) → m0 ≡ u.mem at → m1 ≡ u.mem (at + 1) → leads place bounds P rest None (compared (bit k) u m0 m1 z)) → leads place bounds P (compare_on k rest) None u
 unfolding leads
-compare_clc_at place bounds P rest at u e0 e1 r0 r1 follows =
-    let a0 : ℕ = (u.zp 0 + 256 * u.zp 1 + 0) % 65536 in
-    let a1 : ℕ = (u.zp 0 + 256 * u.zp 1 + 1) % 65536 in
-    (reach_as place bounds a0 at e0 r0, (reach_as place bounds a1 (at + 1) e1 r1, follows (u.mem a0) (u.mem a1) _ (ap u.mem e0) (ap u.mem e1)))
-
--- no more is taken off
-abbrev pub compare_sec_on : List Line → List Line
-compare_sec_on rest = implied Sec ∷ value Ldy 0 ∷ by_y Sbc sp ∷ implied Iny ∷ implied Txa ∷ by_y Sbc sp ∷ rest
-
-pub compare_sec_at : (place : Placement) (bounds : Bounds) (P : State → Type 0) (rest : List Line) (at : ℕ) (u : State) → (u.zp 0 + 256 * u.zp 1 + 0) % 65536 ≡ at → (u.zp 0 + 256 * u.zp 1 + 1) % 65536 ≡ at + 1
-    → IsReachable place bounds at → IsReachable place bounds (at + 1)
-    → ((m0 m1 : ℕ) (z : Bool) → m0 ≡ u.mem at → m1 ≡ u.mem (at + 1) → leads place bounds P rest None (compared 1 u m0 m1 z)) → leads place bounds P (compare_sec_on rest) None u
-unfolding leads
-compare_sec_at place bounds P rest at u e0 e1 r0 r1 follows =
-    let a0 : ℕ = (u.zp 0 + 256 * u.zp 1 + 0) % 65536 in
-    let a1 : ℕ = (u.zp 0 + 256 * u.zp 1 + 1) % 65536 in
-    (reach_as place bounds a0 at e0 r0, (reach_as place bounds a1 (at + 1) e1 r1, follows (u.mem a0) (u.mem a1) _ (ap u.mem e0) (ap u.mem e1)))
+compare_at false place bounds P rest at u e0 e1 r0 r1 follows = (reach_as place bounds _ at e0 r0, (reach_as place bounds _ (at + 1) e1 r1, follows _ _ _ (ap u.mem e0) (ap u.mem e1)))
+compare_at true place bounds P rest at u e0 e1 r0 r1 follows = (reach_as place bounds _ at e0 r0, (reach_as place bounds _ (at + 1) e1 r1, follows _ _ _ (ap u.mem e0) (ap u.mem e1)))
 
 -- the same of the high halves, with the carry
 abbrev pub compare_upper_on : List Line → List Line

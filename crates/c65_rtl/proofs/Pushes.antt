@@ -19,6 +19,7 @@ use Rattle.c65_rtl.specs.Stack.{push_byte, push_word}
 use Rattle.c65_rtl.specs.Routines.{lines_of}
 use Rattle.c65_rtl.proofs.Ways.{leads, Ends, runs}
 use Rattle.c65_rtl.proofs.Meeting.{eq_true, eq_false, not_true, not_false, write_other, write_swap, KeptUnless, ends_by, reached}
+use Rattle.c65_rtl.proofs.Plain.{ends_plain}
 use Rattle.c65_rtl.proofs.SpPieces.{Moved, left, lowers_by}
 
 some_is : {A : Type 0} (x y : A) → Some x ≡ Some y → x ≡ y
@@ -75,25 +76,8 @@ pushes_a s has back t may =
     let open_at : IsReachable s.place (reach_of t) (sp_of t - 1) = reached s.place (reach_of t) (min (sp_of t) (sp_of t - 1)) (sp_of t - 1) (sp_of t - 1) refl (omega arith) near in
     runs s routines.PushA (pusha_row t) back t push_byte has (record { onward = refl; weight = refl; depth = refl }) refl may
     (push_byte_at s.place (reach_of t) (Ends (pusha_row t) t) (called back t) z0 z1 (omega arith) open_at
-    (λ y n v z c zp mem moved stored. ends_by (pusha_row t) t (left (called back t) t.regs.a t.regs.x y n v z c zp mem) [] (record {
-      zp = moved.rest;
-      fit = refl;
-      small = (refl, refl, refl, refl, refl);
-      low_kept = tt;
-      high_kept = tt;
-      a_kept = refl;
-      x_kept = refl;
-      sp = moved.sp;
-      a = refl;
-      x = refl;
-      sreg = sreg_kept _ _ _ moved;
-      pointers = tt;
-      bank = tt;
-      mem = λ b h. stored b;
-      input = refl;
-      output = sym (append-nil t.output);
-      ended = may.running;
-    })))
+    (λ y n v z c zp mem moved stored. ends_plain (pusha_row t) back t t.regs.a t.regs.x y n v z c zp mem [] refl may.running (refl, refl, tt, tt) moved.rest
+    moved.sp (refl, refl, sreg_kept _ _ _ moved) (λ b h. stored b)))
 
 pub write_same : (m : Bytes) (at v b : ℕ) → b ≡ at → write m at v b ≡ v
 write_same m at v b same = elim (eqb_tells b at) [ inl equal ↦ rw equal.0 refl | inr apart ↦ absurd (apart.1 same) ]

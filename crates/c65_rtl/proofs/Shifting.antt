@@ -1,10 +1,12 @@
--- Words and numbers of 32 bits after so many shifts by one.
-use Rattle.std.proofs.Common.{◌≡◌, ℕ, zero, suc, ◌+◌, ◌-◌, ◌*◌, ◌/◌, ◌%◌, ◌^◌, ◌<◌, ◌≤◌, ◌⊎◌, inl, inr, Bool, true, false, sym, ap, ◌∙◌, arith}
-use Rattle.std.specs.Prelude.{if◌then◌else◌, nat_le}
-use Rattle.std.proofs.Math.Nat.{pow-suc, div-div-eq-div-mul, div-le_self}
+-- Numbers of a width after so many shifts by one.
+use Rattle.std.proofs.Common.{◌≡◌, ℕ, suc, ◌+◌, ◌-◌, ◌*◌, ◌/◌, ◌%◌, ◌^◌, ◌<◌, ◌≤◌, ◌⊎◌, inl, inr, true, false, refl, sym, ap, ◌∙◌, arith}
+use Rattle.std.specs.Prelude.{nat_le}
+use Rattle.std.proofs.Math.Nat.{pow-suc, div-div-eq-div-mul, div-le_self, div-eq_of_eq-mul_left, le-div_iff_mul-le, div-lt_iff_lt-mul, le-mul_of_pos_right}
+use Rattle.std.proofs.lemmas.Nat.{pow-add, pow_pos}
 use Rattle.std.proofs.lemmas.Bool.Decides.{leb_tells}
+use Rattle.c65_code.specs.declared.routine.Width.{Width}
 use Rattle.c65_code.specs.declared.routine.Width.TheVariants.{Ax, Eax}
-use Rattle.c65_code.specs.Numbers.{shifted_right}
+use Rattle.c65_code.specs.Numbers.{bits_of, words_of, sign_of, shifted_right}
 
 abbrev pub down : ℕ → ℕ → ℕ
 down v d = v / 2 ^ d
@@ -12,118 +14,72 @@ down v d = v / 2 ^ d
 pub down_step : (v d : ℕ) → down v d / 2 ≡ down v (suc d)
 down_step v d = div-div-eq-div-mul v (2 ^ d) 2 ∙ ap (λ (k : ℕ). v / k) (sym (pow-suc 2 d))
 
-abbrev pub up_word : ℕ → ℕ → ℕ
-up_word v d = (v * 2 ^ d) % 65536
+abbrev pub up : Width → ℕ → ℕ → ℕ
+up width v d = (v * 2 ^ d) % words_of width
 
-pub up_word_step : (v d : ℕ) → (2 * up_word v d) % 65536 ≡ up_word v (suc d)
-up_word_step v d =
+doubled : (width : Width) (v : ℕ) → (2 * (v % words_of width)) % words_of width ≡ (2 * v) % words_of width
+doubled Ax v = omega arith
+doubled Eax v = omega arith
+
+pub up_step : (width : Width) (v d : ℕ) → (2 * up width v d) % words_of width ≡ up width v (suc d)
+up_step width v d =
     let p : 2 ^ suc d ≡ 2 ^ d * 2 = pow-suc 2 d in
     let e : v * (2 ^ d * 2) ≡ 2 * (v * 2 ^ d) = omega arith in
-    let f : (2 * ((v * 2 ^ d) % 65536)) % 65536 ≡ (2 * (v * 2 ^ d)) % 65536 = omega arith in
-    f ∙ ap (λ (k : ℕ). k % 65536) (sym e ∙ ap (λ (k : ℕ). v * k) (sym p))
+    doubled width (v * 2 ^ d) ∙ ap (λ (k : ℕ). k % words_of width) (sym e ∙ ap (λ (k : ℕ). v * k) (sym p))
 
 -- a half with the sign of its whole
-abbrev pub half_word : ℕ → ℕ
-half_word k = k / 2 + 32768 * (k / 32768)
+abbrev pub half : Width → ℕ → ℕ
+half width k = k / 2 + sign_of width * (k / sign_of width)
 
-negative_word : (v d : ℕ) → 32768 ≤ v → v < 65536 → d < 15 → half_word (v / 2 ^ d + (65536 - 65536 / 2 ^ d)) ≡ v / 2 ^ suc d + (65536 - 65536 / 2 ^ suc d)
-negative_word v zero negative small few = omega arith
-negative_word v (suc zero) negative small few = omega arith
-negative_word v (suc (suc zero)) negative small few = omega arith
-negative_word v (suc (suc (suc zero))) negative small few = omega arith
-negative_word v (suc (suc (suc (suc zero)))) negative small few = omega arith
-negative_word v (suc (suc (suc (suc (suc zero))))) negative small few = omega arith
-negative_word v (suc (suc (suc (suc (suc (suc zero)))))) negative small few = omega arith
-negative_word v (suc (suc (suc (suc (suc (suc (suc zero))))))) negative small few = omega arith
-negative_word v (suc (suc (suc (suc (suc (suc (suc (suc zero)))))))) negative small few = omega arith
-negative_word v (suc (suc (suc (suc (suc (suc (suc (suc (suc zero))))))))) negative small few = omega arith
-negative_word v (suc (suc (suc (suc (suc (suc (suc (suc (suc (suc zero)))))))))) negative small few = omega arith
-negative_word v (suc (suc (suc (suc (suc (suc (suc (suc (suc (suc (suc zero))))))))))) negative small few = omega arith
-negative_word v (suc (suc (suc (suc (suc (suc (suc (suc (suc (suc (suc (suc zero)))))))))))) negative small few = omega arith
-negative_word v (suc (suc (suc (suc (suc (suc (suc (suc (suc (suc (suc (suc (suc zero))))))))))))) negative small few = omega arith
-negative_word v (suc (suc (suc (suc (suc (suc (suc (suc (suc (suc (suc (suc (suc (suc zero)))))))))))))) negative small few = omega arith
-negative_word v (suc (suc (suc (suc (suc (suc (suc (suc (suc (suc (suc (suc (suc (suc (suc d))))))))))))))) negative small few = absurd (omega arith)
+half_high : (width : Width) (k : ℕ) → sign_of width ≤ k → k < words_of width → half width k ≡ k / 2 + sign_of width
+half_high Ax k high small = omega arith
+half_high Eax k high small = omega arith
 
-pub signed_word_step : (v d : ℕ) → v < 65536 → d < 15 → half_word (shifted_right Ax v d) ≡ shifted_right Ax v (suc d)
-signed_word_step v d small few = by (leb_tells 32768 v)
+half_low : (width : Width) (k : ℕ) → k < sign_of width → half width k ≡ k / 2
+half_low Ax k low = omega arith
+half_low Eax k low = omega arith
+
+words_are : (width : Width) → words_of width ≡ 2 ^ bits_of width
+words_are Ax = refl
+words_are Eax = refl
+
+signs_are : (width : Width) → words_of width ≡ sign_of width + sign_of width
+signs_are Ax = refl
+signs_are Eax = refl
+
+negative_step : (width : Width) (v d : ℕ) → sign_of width ≤ v → v < words_of width → suc d < bits_of width → half width (v / 2 ^ d + (words_of width - words_of width / 2 ^ d)) ≡ v / 2 ^ suc d + (words_of width - words_of width / 2 ^ suc d)
+negative_step width v d high small few =
+    let q : ℕ = 2 ^ (bits_of width - suc d) in
+    let p : ℕ = 2 ^ d in
+    let p_some : 0 < 2 ^ d = pow_pos d in
+    let both_some : 0 < 2 ^ suc d = pow_pos (suc d) in
+    let bits : bits_of width ≡ bits_of width - suc d + suc d = omega arith in
+    let whole : words_of width ≡ q * 2 ^ suc d = words_are width ∙ (ap (λ (k : ℕ). 2 ^ k) bits ∙ pow-add 2 (bits_of width - suc d) (suc d)) in
+    let twice : q * 2 ^ suc d ≡ q * (p * 2) = ap (λ (k : ℕ). q * k) (pow-suc 2 d) in
+    let parts : q * (p * 2) ≡ (q + q) * p = omega arith in
+    let halves : (q + q) * p ≡ q * p + q * p = omega arith in
+    let signs = signs_are width in
+    let sign : sign_of width ≡ q * p = omega arith in
+    let upper : words_of width / 2 ^ d ≡ q + q = div-eq_of_eq-mul_left p_some (whole ∙ (twice ∙ parts)) in
+    let lower : words_of width / 2 ^ suc d ≡ q = div-eq_of_eq-mul_left both_some whole in
+    let least : q ≤ v / p = (le-div_iff_mul-le p_some).1 (omega arith) in
+    let most : v / p < q + q = (div-lt_iff_lt-mul p_some).1 (omega arith) in
+    let room : q ≤ q * p = le-mul_of_pos_right q p_some in
+    let step = down_step v d in
+    let k : ℕ = v / p + (words_of width - words_of width / p) in
+    let e : k / 2 + sign_of width ≡ v / 2 ^ suc d + (words_of width - words_of width / 2 ^ suc d) = omega arith in
+    half_high width k (omega arith) (omega arith) ∙ e
+
+pub signed_step : (width : Width) (v d : ℕ) → v < words_of width → suc d < bits_of width → half width (shifted_right width v d) ≡ shifted_right width v (suc d)
+signed_step width v d small few = by (leb_tells (sign_of width) v)
   where
-    by : ((nat_le 32768 v ≡ true) × (32768 ≤ v)) ⊎ ((nat_le 32768 v ≡ false) × (v < 32768)) → half_word (shifted_right Ax v d) ≡ shifted_right Ax v (suc d)
-    by (inl p) = ap (λ (b : Bool). half_word (if b then v / 2 ^ d + (65536 - 65536 / 2 ^ d) else v / 2 ^ d)) p.0 ∙ (negative_word v d p.1 small few ∙ sym (ap (λ (b : Bool). if b then v / 2 ^ suc d + (65536 - 65536 / 2 ^ suc d) else v / 2 ^ suc d) p.0))
-    by (inr p) =
-        let under = p.1 in
-        let less = div-le_self v (2 ^ d) in
-        let plain : half_word (v / 2 ^ d) ≡ v / 2 ^ d / 2 = omega arith in
-        ap (λ (b : Bool). half_word (if b then v / 2 ^ d + (65536 - 65536 / 2 ^ d) else v / 2 ^ d)) p.0 ∙ (plain ∙ (down_step v d ∙ sym (ap (λ (b : Bool). if b then v / 2 ^ suc d + (65536 - 65536 / 2 ^ suc d) else v / 2 ^ suc d) p.0)))
+    by : ((nat_le (sign_of width) v ≡ true) × (sign_of width ≤ v)) ⊎ ((nat_le (sign_of width) v ≡ false) × (v < sign_of width)) → half width (shifted_right width v d) ≡ shifted_right width v (suc d)
+    by (inl p) = rw p.0 (negative_step width v d p.1 small few)
+    by (inr p) = let under = p.1 in let less = div-le_self v (2 ^ d) in rw p.0 (half_low width (v / 2 ^ d) (omega arith) ∙ down_step v d)
 
-pub signed_word_start : (v : ℕ) → v < 65536 → v ≡ shifted_right Ax v 0
-signed_word_start v small = by (leb_tells 32768 v)
+pub signed_start : (width : Width) (v : ℕ) → v ≡ shifted_right width v 0
+signed_start width v = by (leb_tells (sign_of width) v)
   where
-    by : ((nat_le 32768 v ≡ true) × (32768 ≤ v)) ⊎ ((nat_le 32768 v ≡ false) × (v < 32768)) → v ≡ shifted_right Ax v 0
-    by (inl p) = let e : v ≡ v / 1 + (65536 - 65536 / 1) = omega arith in e ∙ sym (ap (λ (b : Bool). if b then v / 1 + (65536 - 65536 / 1) else v / 1) p.0)
-    by (inr p) = let e : v ≡ v / 1 = omega arith in e ∙ sym (ap (λ (b : Bool). if b then v / 1 + (65536 - 65536 / 1) else v / 1) p.0)
-
-abbrev pub up_long : ℕ → ℕ → ℕ
-up_long v d = (v * 2 ^ d) % 4294967296
-
-pub up_long_step : (v d : ℕ) → (2 * up_long v d) % 4294967296 ≡ up_long v (suc d)
-up_long_step v d =
-    let p : 2 ^ suc d ≡ 2 ^ d * 2 = pow-suc 2 d in
-    let e : v * (2 ^ d * 2) ≡ 2 * (v * 2 ^ d) = omega arith in
-    let f : (2 * ((v * 2 ^ d) % 4294967296)) % 4294967296 ≡ (2 * (v * 2 ^ d)) % 4294967296 = omega arith in
-    f ∙ ap (λ (k : ℕ). k % 4294967296) (sym e ∙ ap (λ (k : ℕ). v * k) (sym p))
-
--- a half with the sign of its whole
-abbrev pub half_long : ℕ → ℕ
-half_long k = k / 2 + 2147483648 * (k / 2147483648)
-
-negative_long : (v d : ℕ) → 2147483648 ≤ v → v < 4294967296 → d < 31 → half_long (v / 2 ^ d + (4294967296 - 4294967296 / 2 ^ d)) ≡ v / 2 ^ suc d + (4294967296 - 4294967296 / 2 ^ suc d)
-negative_long v zero negative small few = omega arith
-negative_long v (suc zero) negative small few = omega arith
-negative_long v (suc (suc zero)) negative small few = omega arith
-negative_long v (suc (suc (suc zero))) negative small few = omega arith
-negative_long v (suc (suc (suc (suc zero)))) negative small few = omega arith
-negative_long v (suc (suc (suc (suc (suc zero))))) negative small few = omega arith
-negative_long v (suc (suc (suc (suc (suc (suc zero)))))) negative small few = omega arith
-negative_long v (suc (suc (suc (suc (suc (suc (suc zero))))))) negative small few = omega arith
-negative_long v (suc (suc (suc (suc (suc (suc (suc (suc zero)))))))) negative small few = omega arith
-negative_long v (suc (suc (suc (suc (suc (suc (suc (suc (suc zero))))))))) negative small few = omega arith
-negative_long v (suc (suc (suc (suc (suc (suc (suc (suc (suc (suc zero)))))))))) negative small few = omega arith
-negative_long v (suc (suc (suc (suc (suc (suc (suc (suc (suc (suc (suc zero))))))))))) negative small few = omega arith
-negative_long v (suc (suc (suc (suc (suc (suc (suc (suc (suc (suc (suc (suc zero)))))))))))) negative small few = omega arith
-negative_long v (suc (suc (suc (suc (suc (suc (suc (suc (suc (suc (suc (suc (suc zero))))))))))))) negative small few = omega arith
-negative_long v (suc (suc (suc (suc (suc (suc (suc (suc (suc (suc (suc (suc (suc (suc zero)))))))))))))) negative small few = omega arith
-negative_long v (suc (suc (suc (suc (suc (suc (suc (suc (suc (suc (suc (suc (suc (suc (suc zero))))))))))))))) negative small few = omega arith
-negative_long v (suc (suc (suc (suc (suc (suc (suc (suc (suc (suc (suc (suc (suc (suc (suc (suc zero)))))))))))))))) negative small few = omega arith
-negative_long v (suc (suc (suc (suc (suc (suc (suc (suc (suc (suc (suc (suc (suc (suc (suc (suc (suc zero))))))))))))))))) negative small few = omega arith
-negative_long v (suc (suc (suc (suc (suc (suc (suc (suc (suc (suc (suc (suc (suc (suc (suc (suc (suc (suc zero)))))))))))))))))) negative small few = omega arith
-negative_long v (suc (suc (suc (suc (suc (suc (suc (suc (suc (suc (suc (suc (suc (suc (suc (suc (suc (suc (suc zero))))))))))))))))))) negative small few = omega arith
-negative_long v (suc (suc (suc (suc (suc (suc (suc (suc (suc (suc (suc (suc (suc (suc (suc (suc (suc (suc (suc (suc zero)))))))))))))))))))) negative small few = omega arith
-negative_long v (suc (suc (suc (suc (suc (suc (suc (suc (suc (suc (suc (suc (suc (suc (suc (suc (suc (suc (suc (suc (suc zero))))))))))))))))))))) negative small few = omega arith
-negative_long v (suc (suc (suc (suc (suc (suc (suc (suc (suc (suc (suc (suc (suc (suc (suc (suc (suc (suc (suc (suc (suc (suc zero)))))))))))))))))))))) negative small few = omega arith
-negative_long v (suc (suc (suc (suc (suc (suc (suc (suc (suc (suc (suc (suc (suc (suc (suc (suc (suc (suc (suc (suc (suc (suc (suc zero))))))))))))))))))))))) negative small few = omega arith
-negative_long v (suc (suc (suc (suc (suc (suc (suc (suc (suc (suc (suc (suc (suc (suc (suc (suc (suc (suc (suc (suc (suc (suc (suc (suc zero)))))))))))))))))))))))) negative small few = omega arith
-negative_long v (suc (suc (suc (suc (suc (suc (suc (suc (suc (suc (suc (suc (suc (suc (suc (suc (suc (suc (suc (suc (suc (suc (suc (suc (suc zero))))))))))))))))))))))))) negative small few = omega arith
-negative_long v (suc (suc (suc (suc (suc (suc (suc (suc (suc (suc (suc (suc (suc (suc (suc (suc (suc (suc (suc (suc (suc (suc (suc (suc (suc (suc zero)))))))))))))))))))))))))) negative small few = omega arith
-negative_long v (suc (suc (suc (suc (suc (suc (suc (suc (suc (suc (suc (suc (suc (suc (suc (suc (suc (suc (suc (suc (suc (suc (suc (suc (suc (suc (suc zero))))))))))))))))))))))))))) negative small few = omega arith
-negative_long v (suc (suc (suc (suc (suc (suc (suc (suc (suc (suc (suc (suc (suc (suc (suc (suc (suc (suc (suc (suc (suc (suc (suc (suc (suc (suc (suc (suc zero)))))))))))))))))))))))))))) negative small few = omega arith
-negative_long v (suc (suc (suc (suc (suc (suc (suc (suc (suc (suc (suc (suc (suc (suc (suc (suc (suc (suc (suc (suc (suc (suc (suc (suc (suc (suc (suc (suc (suc zero))))))))))))))))))))))))))))) negative small few = omega arith
-negative_long v (suc (suc (suc (suc (suc (suc (suc (suc (suc (suc (suc (suc (suc (suc (suc (suc (suc (suc (suc (suc (suc (suc (suc (suc (suc (suc (suc (suc (suc (suc zero)))))))))))))))))))))))))))))) negative small few = omega arith
-negative_long v (suc (suc (suc (suc (suc (suc (suc (suc (suc (suc (suc (suc (suc (suc (suc (suc (suc (suc (suc (suc (suc (suc (suc (suc (suc (suc (suc (suc (suc (suc (suc d))))))))))))))))))))))))))))))) negative small few = absurd (omega arith)
-
-pub signed_long_step : (v d : ℕ) → v < 4294967296 → d < 31 → half_long (shifted_right Eax v d) ≡ shifted_right Eax v (suc d)
-signed_long_step v d small few = by (leb_tells 2147483648 v)
-  where
-    by : ((nat_le 2147483648 v ≡ true) × (2147483648 ≤ v)) ⊎ ((nat_le 2147483648 v ≡ false) × (v < 2147483648)) → half_long (shifted_right Eax v d) ≡ shifted_right Eax v (suc d)
-    by (inl p) = ap (λ (b : Bool). half_long (if b then v / 2 ^ d + (4294967296 - 4294967296 / 2 ^ d) else v / 2 ^ d)) p.0 ∙ (negative_long v d p.1 small few ∙ sym (ap (λ (b : Bool). if b then v / 2 ^ suc d + (4294967296 - 4294967296 / 2 ^ suc d) else v / 2 ^ suc d) p.0))
-    by (inr p) =
-        let under = p.1 in
-        let less = div-le_self v (2 ^ d) in
-        let plain : half_long (v / 2 ^ d) ≡ v / 2 ^ d / 2 = omega arith in
-        ap (λ (b : Bool). half_long (if b then v / 2 ^ d + (4294967296 - 4294967296 / 2 ^ d) else v / 2 ^ d)) p.0 ∙ (plain ∙ (down_step v d ∙ sym (ap (λ (b : Bool). if b then v / 2 ^ suc d + (4294967296 - 4294967296 / 2 ^ suc d) else v / 2 ^ suc d) p.0)))
-
-pub signed_long_start : (v : ℕ) → v < 4294967296 → v ≡ shifted_right Eax v 0
-signed_long_start v small = by (leb_tells 2147483648 v)
-  where
-    by : ((nat_le 2147483648 v ≡ true) × (2147483648 ≤ v)) ⊎ ((nat_le 2147483648 v ≡ false) × (v < 2147483648)) → v ≡ shifted_right Eax v 0
-    by (inl p) = let e : v ≡ v / 1 + (4294967296 - 4294967296 / 1) = omega arith in e ∙ sym (ap (λ (b : Bool). if b then v / 1 + (4294967296 - 4294967296 / 1) else v / 1) p.0)
-    by (inr p) = let e : v ≡ v / 1 = omega arith in e ∙ sym (ap (λ (b : Bool). if b then v / 1 + (4294967296 - 4294967296 / 1) else v / 1) p.0)
+    by : ((nat_le (sign_of width) v ≡ true) × (sign_of width ≤ v)) ⊎ ((nat_le (sign_of width) v ≡ false) × (v < sign_of width)) → v ≡ shifted_right width v 0
+    by (inl p) = let e : v ≡ v / 1 + (words_of width - words_of width / 1) = omega arith in rw p.0 e
+    by (inr p) = let e : v ≡ v / 1 = omega arith in rw p.0 e

@@ -1,6 +1,6 @@
 -- The routines that move sp alone.
-use Rattle.std.proofs.Common.{◌≡◌, ℕ, ◌+◌, ◌-◌, ◌%◌, ◌<◌, ◌≤◌, Bool, List, [], ◌∷◌, None, refl, sym, subst, arith}
-use Rattle.std.proofs.lemmas.List.{append-nil}
+use Rattle.std.proofs.Common.{◌≡◌, ℕ, ◌+◌, ◌-◌, ◌%◌, ◌<◌, ◌≤◌, Bool, List, [], ◌∷◌, None, refl, subst, arith}
+use Rattle.std.specs.Prelude.{max}
 use Rattle.c65_mach.specs.declared.rows.Op.TheVariants.{Ldy}
 use Rattle.c65_code.specs.declared.routine.Routine.TheVariants as routines
 use Rattle.c65_code.specs.declared.routine.Count.{Count}
@@ -8,15 +8,15 @@ use Rattle.c65_code.specs.declared.routine.Count.TheVariants.{One, Two, Three, F
 use Rattle.c65_code.specs.declared.line.Line.{Line}
 use Rattle.c65_code.specs.LineState.{Place, State, sp_of}
 use Rattle.c65_code.specs.Placement.{Placement}
-use Rattle.c65_code.specs.Rows.{sp_row, number_of}
+use Rattle.c65_code.specs.Rows.{Row, sp_row, number_of}
 use Rattle.c65_code.specs.RawMachine.{RawSetting, Bounds, called, MayRun, Runs, MeetsRow, reach_of}
 use Rattle.c65_rtl.specs.Assembly.{value}
 use Rattle.c65_rtl.specs.Short.{IsShort}
 use Rattle.c65_rtl.specs.Stack.{raise_one, raise_two, raise_by_y, lower_one, lower_two, lower_by_y}
 use Rattle.c65_rtl.specs.Routines.{lines_of}
 use Rattle.c65_rtl.proofs.Ways.{leads, Ends, runs}
-use Rattle.c65_rtl.proofs.Meeting.{ends_by}
-use Rattle.c65_rtl.proofs.SpPieces.{Moved, Follows, left, raise_one_at, raise_two_at, raise_by_y_at, lower_one_at, lower_two_at, lower_by_y_at}
+use Rattle.c65_rtl.proofs.Plain.{ends_plain}
+use Rattle.c65_rtl.proofs.SpPieces.{Moved, Follows, raise_one_at, raise_two_at, raise_by_y_at, lower_one_at, lower_two_at, lower_by_y_at}
 use Rattle.c65_rtl.proofs.Pushes.{meets_by, sreg_kept}
 
 -- Y is loaded first
@@ -45,48 +45,14 @@ lower_by_at place bounds P k u low high byte fits follows =
 raised_ends : (count : Count) (s : RawSetting) (back : Place) (t : State) → MayRun s (sp_row (routines.IncSp count) (sp_of t + number_of count) t) t
     → Follows (Ends (sp_row (routines.IncSp count) (sp_of t + number_of count) t) t) (sp_of t + number_of count) (called back t)
 raised_ends count s back t may = λ y n v z c zp moved.
-    ends_by (sp_row (routines.IncSp count) (sp_of t + number_of count) t) t (left (called back t) t.regs.a t.regs.x y n v z c zp t.mem) [] (record {
-      zp = moved.rest;
-      fit = refl;
-      small = (refl, refl, refl, refl, refl);
-      low_kept = tt;
-      high_kept = tt;
-      a_kept = refl;
-      x_kept = refl;
-      sp = moved.sp;
-      a = refl;
-      x = refl;
-      sreg = sreg_kept _ _ _ moved;
-      pointers = tt;
-      bank = tt;
-      mem = λ b h. refl;
-      input = refl;
-      output = sym (append-nil t.output);
-      ended = may.running;
-    })
+    ends_plain (sp_row (routines.IncSp count) (sp_of t + number_of count) t) back t t.regs.a t.regs.x y n v z c zp t.mem [] refl may.running (refl, refl, tt, tt) moved.rest
+    moved.sp (refl, refl, sreg_kept _ _ _ moved) (λ b h. refl)
 
 lowered_ends : (count : Count) (s : RawSetting) (back : Place) (t : State) → MayRun s (sp_row (routines.DecSp count) (sp_of t - number_of count) t) t
     → Follows (Ends (sp_row (routines.DecSp count) (sp_of t - number_of count) t) t) (sp_of t - number_of count) (called back t)
 lowered_ends count s back t may = λ y n v z c zp moved.
-    ends_by (sp_row (routines.DecSp count) (sp_of t - number_of count) t) t (left (called back t) t.regs.a t.regs.x y n v z c zp t.mem) [] (record {
-      zp = moved.rest;
-      fit = refl;
-      small = (refl, refl, refl, refl, refl);
-      low_kept = tt;
-      high_kept = tt;
-      a_kept = refl;
-      x_kept = refl;
-      sp = moved.sp;
-      a = refl;
-      x = refl;
-      sreg = sreg_kept _ _ _ moved;
-      pointers = tt;
-      bank = tt;
-      mem = λ b h. refl;
-      input = refl;
-      output = sym (append-nil t.output);
-      ended = may.running;
-    })
+    ends_plain (sp_row (routines.DecSp count) (sp_of t - number_of count) t) back t t.regs.a t.regs.x y n v z c zp t.mem [] refl may.running (refl, refl, tt, tt) moved.rest
+    moved.sp (refl, refl, sreg_kept _ _ _ moved) (λ b h. refl)
 
 raises_one : (s : RawSetting) → s.lines (s.routine (routines.IncSp One)) ≡ raise_one → (back : Place) (t : State) → MayRun s (sp_row (routines.IncSp One) (sp_of t + 1) t) t
     → Runs s (routines.IncSp One) (sp_row (routines.IncSp One) (sp_of t + 1) t) back t
@@ -167,55 +133,25 @@ adds_y : (s : RawSetting) → s.lines (s.routine routines.AddYSp) ≡ raise_by_y
 adds_y s has back t may =
     runs s routines.AddYSp (sp_row routines.AddYSp ((sp_of t + t.regs.y) % 65536) t) back t raise_by_y has (record { onward = refl; weight = refl; depth = refl }) refl may
     (raise_by_y_at s.place (reach_of t) (Ends (sp_row routines.AddYSp ((sp_of t + t.regs.y) % 65536) t) t) (called back t) (may.bytes.zp 0) (may.bytes.zp 1) may.bytes.y (λ y n v z c zp moved.
-    ends_by (sp_row routines.AddYSp ((sp_of t + t.regs.y) % 65536) t) t (left (called back t) t.regs.a t.regs.x y n v z c zp t.mem) [] (record {
-      zp = moved.rest;
-      fit = refl;
-      small = (refl, refl, refl, refl, refl);
-      low_kept = tt;
-      high_kept = tt;
-      a_kept = refl;
-      x_kept = refl;
-      sp = moved.sp;
-      a = refl;
-      x = refl;
-      sreg = sreg_kept _ _ _ moved;
-      pointers = tt;
-      bank = tt;
-      mem = λ b h. refl;
-      input = refl;
-      output = sym (append-nil t.output);
-      ended = may.running;
-    })))
+    ends_plain (sp_row routines.AddYSp ((sp_of t + t.regs.y) % 65536) t) back t t.regs.a t.regs.x y n v z c zp t.mem [] refl may.running (refl, refl, tt, tt) moved.rest
+    moved.sp (refl, refl, sreg_kept _ _ _ moved) (λ b h. refl)))
 
-subtracts_y : (s : RawSetting) → s.lines (s.routine routines.SubYSp) ≡ lower_by_y → (back : Place) (t : State) → MayRun s (sp_row routines.SubYSp (sp_of t - t.regs.y) t) t
-    → Runs s routines.SubYSp (sp_row routines.SubYSp (sp_of t - t.regs.y) t) back t
+-- the room that it makes is open
+abbrev subysp_row : State → Row
+subysp_row t = record (sp_row routines.SubYSp (sp_of t - t.regs.y) t) { room = max 64 t.regs.y }
+
+subtracts_y : (s : RawSetting) → s.lines (s.routine routines.SubYSp) ≡ lower_by_y → (back : Place) (t : State) → MayRun s (subysp_row t) t
+    → Runs s routines.SubYSp (subysp_row t) back t
 subtracts_y s has back t may =
     let soft = may.room.soft in
     let byte = may.bytes.y in
-    runs s routines.SubYSp (sp_row routines.SubYSp (sp_of t - t.regs.y) t) back t lower_by_y has (record { onward = refl; weight = refl; depth = refl }) refl may
-    (lower_by_y_at s.place (reach_of t) (Ends (sp_row routines.SubYSp (sp_of t - t.regs.y) t) t) (called back t) (may.bytes.zp 0) (may.bytes.zp 1) byte (omega arith) (λ y n v z c zp moved.
-    ends_by (sp_row routines.SubYSp (sp_of t - t.regs.y) t) t (left (called back t) t.regs.a t.regs.x y n v z c zp t.mem) [] (record {
-      zp = moved.rest;
-      fit = refl;
-      small = (refl, refl, refl, refl, refl);
-      low_kept = tt;
-      high_kept = tt;
-      a_kept = refl;
-      x_kept = refl;
-      sp = moved.sp;
-      a = refl;
-      x = refl;
-      sreg = sreg_kept _ _ _ moved;
-      pointers = tt;
-      bank = tt;
-      mem = λ b h. refl;
-      input = refl;
-      output = sym (append-nil t.output);
-      ended = may.running;
-    })))
+    runs s routines.SubYSp (subysp_row t) back t lower_by_y has (record { onward = refl; weight = refl; depth = refl }) refl may
+    (lower_by_y_at s.place (reach_of t) (Ends (subysp_row t) t) (called back t) (may.bytes.zp 0) (may.bytes.zp 1) byte (omega arith) (λ y n v z c zp moved.
+    ends_plain (subysp_row t) back t t.regs.a t.regs.x y n v z c zp t.mem [] refl may.running (refl, refl, tt, tt) moved.rest
+    moved.sp (refl, refl, sreg_kept _ _ _ moved) (λ b h. refl)))
 
 pub addysp : (s : RawSetting) → s.lines (s.routine routines.AddYSp) ≡ lines_of routines.AddYSp → MeetsRow s routines.AddYSp
 addysp s has = meets_by s routines.AddYSp (λ t. sp_row routines.AddYSp ((sp_of t + t.regs.y) % 65536) t) (λ t. refl) (adds_y s has)
 
 pub subysp : (s : RawSetting) → s.lines (s.routine routines.SubYSp) ≡ lines_of routines.SubYSp → MeetsRow s routines.SubYSp
-subysp s has = meets_by s routines.SubYSp (λ t. sp_row routines.SubYSp (sp_of t - t.regs.y) t) (λ t. refl) (subtracts_y s has)
+subysp s has = meets_by s routines.SubYSp subysp_row (λ t. refl) (subtracts_y s has)

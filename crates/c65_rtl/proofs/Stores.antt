@@ -1,7 +1,6 @@
 -- The routines that store to the software stack.
 use Rattle.std.proofs.Common.{◌≡◌, ℕ, ◌+◌, ◌*◌, ◌%◌, ◌<◌, ◌≤◌, inl, inr, Bool, true, [], ◌∷◌, None, refl, sym, subst, ◌∙◌, arith}
 use Rattle.std.specs.Prelude.{nat_le}
-use Rattle.std.proofs.lemmas.List.{append-nil}
 use Rattle.std.proofs.lemmas.Bool.Decides.{leb_tells}
 use Rattle.c65_mach.specs.declared.rows.Op.TheVariants.{Ldy}
 use Rattle.c65_code.specs.declared.routine.Routine.TheVariants as routines
@@ -13,7 +12,7 @@ use Rattle.c65_rtl.specs.Assembly.{value}
 use Rattle.c65_rtl.specs.Stack.{store_word, store_long}
 use Rattle.c65_rtl.specs.Routines.{lines_of}
 use Rattle.c65_rtl.proofs.Ways.{leads, Ends, runs}
-use Rattle.c65_rtl.proofs.Meeting.{ends_by}
+use Rattle.c65_rtl.proofs.Plain.{ends_plain}
 use Rattle.c65_rtl.proofs.Opens.{OpenBytes, opens_near}
 use Rattle.c65_rtl.proofs.SpPieces.{left}
 use Rattle.c65_rtl.proofs.Pushes.{meets_by, write_where, write_cong}
@@ -95,25 +94,8 @@ stores_ax_y s has back t may =
     let end : at + 1 < 65520 = bytes.below 1 one in
     runs s routines.StAxYSp (staxysp_row t) back t store_word has (record { onward = refl; weight = refl; depth = refl }) refl may
     (store_word_at s.place (reach_of t) (Ends (staxysp_row t) t) at (called back t) (omega arith) (omega arith) (bytes.first two) (bytes.reach 1 one)
-    (λ y n z mem stored. ends_by (staxysp_row t) t (left (called back t) t.regs.a t.regs.x y n t.regs.v z t.regs.c t.zp mem) [] (record {
-      zp = λ i two. refl;
-      fit = refl;
-      small = (refl, refl, refl, refl, refl);
-      low_kept = refl;
-      high_kept = refl;
-      a_kept = refl;
-      x_kept = refl;
-      sp = refl;
-      a = refl;
-      x = refl;
-      sreg = refl;
-      pointers = tt;
-      bank = tt;
-      mem = λ b h. stored b;
-      input = refl;
-      output = sym (append-nil t.output);
-      ended = may.running;
-    })))
+    (λ y n z mem stored. ends_plain (staxysp_row t) back t t.regs.a t.regs.x y n t.regs.v z t.regs.c t.zp mem [] refl may.running (refl, refl, refl, refl) (λ i two. refl)
+    refl (refl, refl, refl) (λ b h. stored b)))
 
 abbrev stax0sp_row : State → Row
 stax0sp_row t = keeping t (storing (t.regs.a ∷ t.regs.x ∷ []) (sp_of t) (row_by routines.StAx0Sp t))
@@ -128,25 +110,8 @@ stores_ax_0 s has back t may =
     runs s routines.StAx0Sp (stax0sp_row t) back t (value Ldy 0 ∷ store_word) has (record { onward = refl; weight = refl; depth = refl }) refl may
     (with_y_at s.place (reach_of t) (Ends (stax0sp_row t) t) 0 store_word (called back t) (λ m w.
     store_word_at s.place (reach_of t) (Ends (stax0sp_row t) t) (sp_of t) (record (called back t) { regs = record t.regs { y = 0; n = m; z = w } }) (omega arith) (omega arith) (bytes.first two) (bytes.reach 1 one)
-    (λ y n z mem stored. ends_by (stax0sp_row t) t (left (called back t) t.regs.a t.regs.x y n t.regs.v z t.regs.c t.zp mem) [] (record {
-      zp = λ i two. refl;
-      fit = refl;
-      small = (refl, refl, refl, refl, refl);
-      low_kept = refl;
-      high_kept = refl;
-      a_kept = refl;
-      x_kept = refl;
-      sp = refl;
-      a = refl;
-      x = refl;
-      sreg = refl;
-      pointers = tt;
-      bank = tt;
-      mem = λ b h. stored b;
-      input = refl;
-      output = sym (append-nil t.output);
-      ended = may.running;
-    }))))
+    (λ y n z mem stored. ends_plain (stax0sp_row t) back t t.regs.a t.regs.x y n t.regs.v z t.regs.c t.zp mem [] refl may.running (refl, refl, refl, refl) (λ i two. refl)
+    refl (refl, refl, refl) (λ b h. stored b))))
 
 -- steaxysp
 abbrev steaxysp_row : State → Row
@@ -168,25 +133,8 @@ stores_eax_y s has back t may =
     runs s routines.StEaxYSp (steaxysp_row t) back t store_long has (record { onward = refl; weight = refl; depth = refl }) refl may
     (store_long_at s.place (reach_of t) (Ends (steaxysp_row t) t) at (called back t) (omega arith) (omega arith) (omega arith) (omega arith)
     (bytes.first k0) (bytes.reach 1 k1) (reach_as s.place (reach_of t) (at + 1 + 1) (at + 2) third (bytes.reach 2 k2)) (reach_as s.place (reach_of t) (at + 1 + 1 + 1) (at + 3) fourth (bytes.reach 3 k3))
-    (λ y n z mem stored. ends_by (steaxysp_row t) t (left (called back t) t.regs.a t.regs.x y n t.regs.v z t.regs.c t.zp mem) [] (record {
-      zp = λ i two. refl;
-      fit = refl;
-      small = (refl, refl, refl, refl, refl);
-      low_kept = refl;
-      high_kept = refl;
-      a_kept = refl;
-      x_kept = refl;
-      sp = refl;
-      a = refl;
-      x = refl;
-      sreg = refl;
-      pointers = tt;
-      bank = tt;
-      mem = λ b h. stored b;
-      input = refl;
-      output = sym (append-nil t.output);
-      ended = may.running;
-    })))
+    (λ y n z mem stored. ends_plain (steaxysp_row t) back t t.regs.a t.regs.x y n t.regs.v z t.regs.c t.zp mem [] refl may.running (refl, refl, refl, refl) (λ i two. refl)
+    refl (refl, refl, refl) (λ b h. stored b)))
 
 pub staxysp : (s : RawSetting) → s.lines (s.routine routines.StAxYSp) ≡ lines_of routines.StAxYSp → MeetsRow s routines.StAxYSp
 staxysp s has = meets_by s routines.StAxYSp staxysp_row (λ t. refl) (stores_ax_y s has)

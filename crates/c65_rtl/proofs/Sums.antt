@@ -1,7 +1,6 @@
 -- The bytes of sums, differences and of bits taken together.
-use Rattle.std.proofs.Common.{◌≡◌, ℕ, ◌+◌, ◌-◌, ◌*◌, ◌/◌, ◌%◌, ◌<◌, sym, ap, ◌∙◌, arith}
-use Rattle.std.specs.Prelude.{nat_lt, bit_and, bit_or, bit_xor}
-use Rattle.std.proofs.lemmas.Nat.{and_block, or_block, xor_block, and_comm, or_comm, xor_comm, and_le_l, or_of_8, xor_of_8}
+use Rattle.std.proofs.Common.{◌≡◌, ℕ, ◌+◌, ◌-◌, ◌*◌, ◌/◌, ◌%◌, ◌<◌, ap, ◌∙◌, arith}
+use Rattle.std.specs.Prelude.{nat_lt}
 use Rattle.c65_mach.specs.Step.{bit}
 use Rattle.c65_code.specs.LineState.{Bytes, word_at}
 use Rattle.c65_code.specs.Rows.{long_at}
@@ -26,78 +25,6 @@ operand m at m0 m1 m2 m3 bytes e0 e1 e2 e3 =
     let c2 = bytes (at + 2) in
     let c3 = bytes (at + 2 + 1) in
     record { word = omega arith; long = omega arith; b0 = omega arith; b1 = omega arith; b2 = omega arith; b3 = omega arith }
-
-and_in_word : (m0 m1 a x : ℕ) → m0 < 256 → a < 256 → bit_and a m0 + 256 * bit_and x m1 ≡ bit_and (m0 + 256 * m1) (a + 256 * x)
-and_in_word m0 m1 a x low byte =
-    let block : bit_and (m1 * 256 + m0) (x * 256 + a) ≡ bit_and m1 x * 256 + bit_and m0 a = and_block 8 m1 x m0 a low byte in
-    let p : m0 + 256 * m1 ≡ m1 * 256 + m0 = omega arith in
-    let q : a + 256 * x ≡ x * 256 + a = omega arith in
-    let c : bit_and a m0 ≡ bit_and m0 a = and_comm a m0 in
-    let d : bit_and x m1 ≡ bit_and m1 x = and_comm x m1 in
-    let e : bit_and a m0 + 256 * bit_and x m1 ≡ bit_and m1 x * 256 + bit_and m0 a = omega arith in
-    e ∙ (sym block ∙ (ap (λ (k : ℕ). bit_and k (x * 256 + a)) (sym p) ∙ ap (λ (k : ℕ). bit_and (m0 + 256 * m1) k) (sym q)))
-
-and_in_long : (m0 m1 m2 m3 a x l h : ℕ) → m0 < 256 → m1 < 256 → m2 < 256 → a < 256 → x < 256 → l < 256
-    → bit_and a m0 + 256 * bit_and x m1 + 65536 * (bit_and l m2 + 256 * bit_and h m3) ≡ bit_and (m0 + 256 * m1 + 65536 * (m2 + 256 * m3)) (a + 256 * x + 65536 * (l + 256 * h))
-and_in_long m0 m1 m2 m3 a x l h c0 c1 c2 ba bx bl =
-    let under : m0 + 256 * m1 < 65536 = omega arith in
-    let below : a + 256 * x < 65536 = omega arith in
-    let block : bit_and ((m2 + 256 * m3) * 65536 + (m0 + 256 * m1)) ((l + 256 * h) * 65536 + (a + 256 * x)) ≡ bit_and (m2 + 256 * m3) (l + 256 * h) * 65536 + bit_and (m0 + 256 * m1) (a + 256 * x) = and_block 16 (m2 + 256 * m3) (l + 256 * h) (m0 + 256 * m1) (a + 256 * x) under below in
-    let p : m0 + 256 * m1 + 65536 * (m2 + 256 * m3) ≡ (m2 + 256 * m3) * 65536 + (m0 + 256 * m1) = omega arith in
-    let q : a + 256 * x + 65536 * (l + 256 * h) ≡ (l + 256 * h) * 65536 + (a + 256 * x) = omega arith in
-    let low : bit_and a m0 + 256 * bit_and x m1 ≡ bit_and (m0 + 256 * m1) (a + 256 * x) = and_in_word m0 m1 a x c0 ba in
-    let high : bit_and l m2 + 256 * bit_and h m3 ≡ bit_and (m2 + 256 * m3) (l + 256 * h) = and_in_word m2 m3 l h c2 bl in
-    let e : bit_and a m0 + 256 * bit_and x m1 + 65536 * (bit_and l m2 + 256 * bit_and h m3) ≡ bit_and (m2 + 256 * m3) (l + 256 * h) * 65536 + bit_and (m0 + 256 * m1) (a + 256 * x) = omega arith in
-    e ∙ (sym block ∙ (ap (λ (k : ℕ). bit_and k ((l + 256 * h) * 65536 + (a + 256 * x))) (sym p) ∙ ap (λ (k : ℕ). bit_and (m0 + 256 * m1 + 65536 * (m2 + 256 * m3)) k) (sym q)))
-
-or_in_word : (m0 m1 a x : ℕ) → m0 < 256 → a < 256 → bit_or a m0 + 256 * bit_or x m1 ≡ bit_or (m0 + 256 * m1) (a + 256 * x)
-or_in_word m0 m1 a x low byte =
-    let block : bit_or (m1 * 256 + m0) (x * 256 + a) ≡ bit_or m1 x * 256 + bit_or m0 a = or_block 8 m1 x m0 a low byte in
-    let p : m0 + 256 * m1 ≡ m1 * 256 + m0 = omega arith in
-    let q : a + 256 * x ≡ x * 256 + a = omega arith in
-    let c : bit_or a m0 ≡ bit_or m0 a = or_comm a m0 in
-    let d : bit_or x m1 ≡ bit_or m1 x = or_comm x m1 in
-    let e : bit_or a m0 + 256 * bit_or x m1 ≡ bit_or m1 x * 256 + bit_or m0 a = omega arith in
-    e ∙ (sym block ∙ (ap (λ (k : ℕ). bit_or k (x * 256 + a)) (sym p) ∙ ap (λ (k : ℕ). bit_or (m0 + 256 * m1) k) (sym q)))
-
-or_in_long : (m0 m1 m2 m3 a x l h : ℕ) → m0 < 256 → m1 < 256 → m2 < 256 → a < 256 → x < 256 → l < 256
-    → bit_or a m0 + 256 * bit_or x m1 + 65536 * (bit_or l m2 + 256 * bit_or h m3) ≡ bit_or (m0 + 256 * m1 + 65536 * (m2 + 256 * m3)) (a + 256 * x + 65536 * (l + 256 * h))
-or_in_long m0 m1 m2 m3 a x l h c0 c1 c2 ba bx bl =
-    let under : m0 + 256 * m1 < 65536 = omega arith in
-    let below : a + 256 * x < 65536 = omega arith in
-    let block : bit_or ((m2 + 256 * m3) * 65536 + (m0 + 256 * m1)) ((l + 256 * h) * 65536 + (a + 256 * x)) ≡ bit_or (m2 + 256 * m3) (l + 256 * h) * 65536 + bit_or (m0 + 256 * m1) (a + 256 * x) = or_block 16 (m2 + 256 * m3) (l + 256 * h) (m0 + 256 * m1) (a + 256 * x) under below in
-    let p : m0 + 256 * m1 + 65536 * (m2 + 256 * m3) ≡ (m2 + 256 * m3) * 65536 + (m0 + 256 * m1) = omega arith in
-    let q : a + 256 * x + 65536 * (l + 256 * h) ≡ (l + 256 * h) * 65536 + (a + 256 * x) = omega arith in
-    let low : bit_or a m0 + 256 * bit_or x m1 ≡ bit_or (m0 + 256 * m1) (a + 256 * x) = or_in_word m0 m1 a x c0 ba in
-    let high : bit_or l m2 + 256 * bit_or h m3 ≡ bit_or (m2 + 256 * m3) (l + 256 * h) = or_in_word m2 m3 l h c2 bl in
-    let e : bit_or a m0 + 256 * bit_or x m1 + 65536 * (bit_or l m2 + 256 * bit_or h m3) ≡ bit_or (m2 + 256 * m3) (l + 256 * h) * 65536 + bit_or (m0 + 256 * m1) (a + 256 * x) = omega arith in
-    e ∙ (sym block ∙ (ap (λ (k : ℕ). bit_or k ((l + 256 * h) * 65536 + (a + 256 * x))) (sym p) ∙ ap (λ (k : ℕ). bit_or (m0 + 256 * m1 + 65536 * (m2 + 256 * m3)) k) (sym q)))
-
-xor_in_word : (m0 m1 a x : ℕ) → m0 < 256 → a < 256 → bit_xor a m0 + 256 * bit_xor x m1 ≡ bit_xor (m0 + 256 * m1) (a + 256 * x)
-xor_in_word m0 m1 a x low byte =
-    let block : bit_xor (m1 * 256 + m0) (x * 256 + a) ≡ bit_xor m1 x * 256 + bit_xor m0 a = xor_block 8 m1 x m0 a low byte in
-    let p : m0 + 256 * m1 ≡ m1 * 256 + m0 = omega arith in
-    let q : a + 256 * x ≡ x * 256 + a = omega arith in
-    let c : bit_xor a m0 ≡ bit_xor m0 a = xor_comm a m0 in
-    let d : bit_xor x m1 ≡ bit_xor m1 x = xor_comm x m1 in
-    let e : bit_xor a m0 + 256 * bit_xor x m1 ≡ bit_xor m1 x * 256 + bit_xor m0 a = omega arith in
-    e ∙ (sym block ∙ (ap (λ (k : ℕ). bit_xor k (x * 256 + a)) (sym p) ∙ ap (λ (k : ℕ). bit_xor (m0 + 256 * m1) k) (sym q)))
-
-xor_in_long : (m0 m1 m2 m3 a x l h : ℕ) → m0 < 256 → m1 < 256 → m2 < 256 → a < 256 → x < 256 → l < 256
-    → bit_xor a m0 + 256 * bit_xor x m1 + 65536 * (bit_xor l m2 + 256 * bit_xor h m3) ≡ bit_xor (m0 + 256 * m1 + 65536 * (m2 + 256 * m3)) (a + 256 * x + 65536 * (l + 256 * h))
-xor_in_long m0 m1 m2 m3 a x l h c0 c1 c2 ba bx bl =
-    let under : m0 + 256 * m1 < 65536 = omega arith in
-    let below : a + 256 * x < 65536 = omega arith in
-    let block : bit_xor ((m2 + 256 * m3) * 65536 + (m0 + 256 * m1)) ((l + 256 * h) * 65536 + (a + 256 * x)) ≡ bit_xor (m2 + 256 * m3) (l + 256 * h) * 65536 + bit_xor (m0 + 256 * m1) (a + 256 * x) = xor_block 16 (m2 + 256 * m3) (l + 256 * h) (m0 + 256 * m1) (a + 256 * x) under below in
-    let p : m0 + 256 * m1 + 65536 * (m2 + 256 * m3) ≡ (m2 + 256 * m3) * 65536 + (m0 + 256 * m1) = omega arith in
-    let q : a + 256 * x + 65536 * (l + 256 * h) ≡ (l + 256 * h) * 65536 + (a + 256 * x) = omega arith in
-    let low : bit_xor a m0 + 256 * bit_xor x m1 ≡ bit_xor (m0 + 256 * m1) (a + 256 * x) = xor_in_word m0 m1 a x c0 ba in
-    let high : bit_xor l m2 + 256 * bit_xor h m3 ≡ bit_xor (m2 + 256 * m3) (l + 256 * h) = xor_in_word m2 m3 l h c2 bl in
-    let e : bit_xor a m0 + 256 * bit_xor x m1 + 65536 * (bit_xor l m2 + 256 * bit_xor h m3) ≡ bit_xor (m2 + 256 * m3) (l + 256 * h) * 65536 + bit_xor (m0 + 256 * m1) (a + 256 * x) = omega arith in
-    e ∙ (sym block ∙ (ap (λ (k : ℕ). bit_xor k ((l + 256 * h) * 65536 + (a + 256 * x))) (sym p) ∙ ap (λ (k : ℕ). bit_xor (m0 + 256 * m1 + 65536 * (m2 + 256 * m3)) k) (sym q)))
-
-and_of_8 : (a b : ℕ) → a < 256 → b < 256 → bit_and a b < 256
-and_of_8 a b low high = let le = and_le_l a b in omega arith
 
 -- sums with carries
 abbrev pub plus_0 : ℕ → ℕ → ℕ
@@ -184,24 +111,3 @@ sub_long a x l h m0 m1 m2 m3 la lx ll lh l0 l1 l2 l3 =
     let sum : minus_0 a m0 % 256 + 256 * (minus_1 a x m0 m1 % 256) + 65536 * (minus_2 a x l m0 m1 m2 % 256 + 256 * (minus_3 a x l h m0 m1 m2 m3 % 256)) ≡ ((m0 + 256 * m1 + 65536 * (m2 + 256 * m3)) + 4294967296 - (a + 256 * x + 65536 * (l + 256 * h))) % 4294967296 =
     ap (λ (k : ℕ). k + 256 * (minus_1 a x m0 m1 % 256) + 65536 * (minus_2 a x l m0 m1 m2 % 256 + 256 * (minus_3 a x l h m0 m1 m2 m3 % 256))) same ∙ (all ∙ ap (λ (k : ℕ). k % 4294967296) number) in
     long_bytes_of (((m0 + 256 * m1 + 65536 * (m2 + 256 * m3)) + 4294967296 - (a + 256 * x + 65536 * (l + 256 * h))) % 4294967296) (minus_0 a m0 % 256) (minus_1 a x m0 m1 % 256) (minus_2 a x l m0 m1 m2 % 256) (minus_3 a x l h m0 m1 m2 m3 % 256) low high sum
-
-pub and_word : (a x m0 m1 : ℕ) → a < 256 → x < 256 → m0 < 256 → m1 < 256 → AreWordBytes (bit_and (m0 + 256 * m1) (a + 256 * x)) (bit_and a m0) (bit_and x m1)
-and_word a x m0 m1 la lx l0 l1 = word_bytes_of (bit_and (m0 + 256 * m1) (a + 256 * x)) (bit_and a m0) (bit_and x m1) (and_of_8 a m0 la l0) (and_of_8 x m1 lx l1) (and_in_word m0 m1 a x l0 la)
-
-pub and_long : (a x l h m0 m1 m2 m3 : ℕ) → a < 256 → x < 256 → l < 256 → h < 256 → m0 < 256 → m1 < 256 → m2 < 256 → m3 < 256 → AreLongBytes (bit_and (m0 + 256 * m1 + 65536 * (m2 + 256 * m3)) (a + 256 * x + 65536 * (l + 256 * h))) (bit_and a m0) (bit_and x m1) (bit_and l m2) (bit_and h m3)
-and_long a x l h m0 m1 m2 m3 la lx ll lh l0 l1 l2 l3 =
-    long_bytes_of (bit_and (m0 + 256 * m1 + 65536 * (m2 + 256 * m3)) (a + 256 * x + 65536 * (l + 256 * h))) (bit_and a m0) (bit_and x m1) (bit_and l m2) (bit_and h m3) (and_of_8 a m0 la l0) (and_of_8 x m1 lx l1) (and_in_long m0 m1 m2 m3 a x l h l0 l1 l2 la lx ll)
-
-pub or_word : (a x m0 m1 : ℕ) → a < 256 → x < 256 → m0 < 256 → m1 < 256 → AreWordBytes (bit_or (m0 + 256 * m1) (a + 256 * x)) (bit_or a m0) (bit_or x m1)
-or_word a x m0 m1 la lx l0 l1 = word_bytes_of (bit_or (m0 + 256 * m1) (a + 256 * x)) (bit_or a m0) (bit_or x m1) (or_of_8 a m0 la l0) (or_of_8 x m1 lx l1) (or_in_word m0 m1 a x l0 la)
-
-pub or_long : (a x l h m0 m1 m2 m3 : ℕ) → a < 256 → x < 256 → l < 256 → h < 256 → m0 < 256 → m1 < 256 → m2 < 256 → m3 < 256 → AreLongBytes (bit_or (m0 + 256 * m1 + 65536 * (m2 + 256 * m3)) (a + 256 * x + 65536 * (l + 256 * h))) (bit_or a m0) (bit_or x m1) (bit_or l m2) (bit_or h m3)
-or_long a x l h m0 m1 m2 m3 la lx ll lh l0 l1 l2 l3 =
-    long_bytes_of (bit_or (m0 + 256 * m1 + 65536 * (m2 + 256 * m3)) (a + 256 * x + 65536 * (l + 256 * h))) (bit_or a m0) (bit_or x m1) (bit_or l m2) (bit_or h m3) (or_of_8 a m0 la l0) (or_of_8 x m1 lx l1) (or_in_long m0 m1 m2 m3 a x l h l0 l1 l2 la lx ll)
-
-pub xor_word : (a x m0 m1 : ℕ) → a < 256 → x < 256 → m0 < 256 → m1 < 256 → AreWordBytes (bit_xor (m0 + 256 * m1) (a + 256 * x)) (bit_xor a m0) (bit_xor x m1)
-xor_word a x m0 m1 la lx l0 l1 = word_bytes_of (bit_xor (m0 + 256 * m1) (a + 256 * x)) (bit_xor a m0) (bit_xor x m1) (xor_of_8 a m0 la l0) (xor_of_8 x m1 lx l1) (xor_in_word m0 m1 a x l0 la)
-
-pub xor_long : (a x l h m0 m1 m2 m3 : ℕ) → a < 256 → x < 256 → l < 256 → h < 256 → m0 < 256 → m1 < 256 → m2 < 256 → m3 < 256 → AreLongBytes (bit_xor (m0 + 256 * m1 + 65536 * (m2 + 256 * m3)) (a + 256 * x + 65536 * (l + 256 * h))) (bit_xor a m0) (bit_xor x m1) (bit_xor l m2) (bit_xor h m3)
-xor_long a x l h m0 m1 m2 m3 la lx ll lh l0 l1 l2 l3 =
-    long_bytes_of (bit_xor (m0 + 256 * m1 + 65536 * (m2 + 256 * m3)) (a + 256 * x + 65536 * (l + 256 * h))) (bit_xor a m0) (bit_xor x m1) (bit_xor l m2) (bit_xor h m3) (xor_of_8 a m0 la l0) (xor_of_8 x m1 lx l1) (xor_in_long m0 m1 m2 m3 a x l h l0 l1 l2 la lx ll)

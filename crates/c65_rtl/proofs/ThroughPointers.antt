@@ -1,6 +1,5 @@
 -- The routines that load and store through a pointer.
 use Rattle.std.proofs.Common.{◌≡◌, ℕ, ◌+◌, ◌*◌, ◌/◌, ◌%◌, ◌<◌, Bool, List, [], ◌∷◌, None, refl, sym, ap, ◌∙◌, arith}
-use Rattle.std.proofs.lemmas.List.{append-nil}
 use Rattle.c65_mach.specs.declared.rows.Op.TheVariants.{Dey, Lda, Ldx, Ldy, Rts, Sta, Stx, Tax}
 use Rattle.c65_code.specs.declared.routine.Routine.TheVariants as routines
 use Rattle.c65_code.specs.declared.routine.Width.TheVariants.{Ax, Eax}
@@ -12,7 +11,7 @@ use Rattle.c65_code.specs.RawMachine.{RawSetting, Bounds, IsReachable, called, M
 use Rattle.c65_rtl.specs.Assembly.{sreg, ptr1, implied, value, zero_page, by_y}
 use Rattle.c65_rtl.specs.Routines.{lines_of}
 use Rattle.c65_rtl.proofs.Ways.{leads, Ends, runs}
-use Rattle.c65_rtl.proofs.Meeting.{ends_by}
+use Rattle.c65_rtl.proofs.Plain.{ends_plain}
 use Rattle.c65_rtl.proofs.Opens.{OpenBytes, opens_far}
 use Rattle.c65_rtl.proofs.SpPieces.{left}
 use Rattle.c65_rtl.proofs.Pushes.{meets_by}
@@ -83,25 +82,8 @@ ldai_runs s has back t may =
     let high_is : t.mem (ax_of t) / 256 % 256 ≡ 0 = omega arith in
     runs s routines.LdAi (ldai_row t) back t ldai_lines has (record { onward = refl; weight = refl; depth = refl }) refl may
     (ldai_at s.place (reach_of t) (Ends (ldai_row t) t) (ax_of t) (called back t) (omega arith) (bytes.first k0)
-    (λ a n z is_a. ends_by (ldai_row t) t (left (called back t) a 0 0 n t.regs.v z t.regs.c (pointing t) t.mem) ((8, t.regs.a) ∷ (9, t.regs.x) ∷ []) (record {
-      zp = λ i two. refl;
-      fit = refl;
-      small = (refl, refl, refl, refl, refl);
-      low_kept = refl;
-      high_kept = refl;
-      a_kept = tt;
-      x_kept = tt;
-      sp = refl;
-      a = is_a ∙ low_is;
-      x = sym high_is;
-      sreg = tt;
-      pointers = tt;
-      bank = tt;
-      mem = λ b h. refl;
-      input = refl;
-      output = sym (append-nil t.output);
-      ended = may.running;
-    })))
+    (λ a n z is_a. ends_plain (ldai_row t) back t a 0 0 n t.regs.v z t.regs.c (pointing t) t.mem ((8, t.regs.a) ∷ (9, t.regs.x) ∷ []) refl may.running (tt, tt, refl, refl) (λ i two. refl)
+    refl (is_a ∙ low_is, sym high_is, tt) (λ b h. refl)))
 
 pub ldai : (s : RawSetting) → s.lines (s.routine routines.LdAi) ≡ lines_of routines.LdAi → MeetsRow s routines.LdAi
 ldai s has = meets_by s routines.LdAi ldai_row (λ t. refl) (ldai_runs s has)
@@ -119,25 +101,8 @@ ldaxi_runs s has back t may =
     let b1 = may.bytes.mem (ax_of t + 1) in
     runs s routines.LdAxi (ldaxi_row t) back t ldaxi_lines has (record { onward = refl; weight = refl; depth = refl }) refl may
     (ldaxi_at s.place (reach_of t) (Ends (ldaxi_row t) t) (ax_of t) (called back t) (omega arith) (omega arith) (bytes.first k0) (bytes.reach 1 k1)
-    (λ a x n z is_a is_x. ends_by (ldaxi_row t) t (left (called back t) a x 0 n t.regs.v z t.regs.c (pointing t) t.mem) ((8, t.regs.a) ∷ (9, t.regs.x) ∷ []) (record {
-      zp = λ i two. refl;
-      fit = refl;
-      small = (refl, refl, refl, refl, refl);
-      low_kept = refl;
-      high_kept = refl;
-      a_kept = tt;
-      x_kept = tt;
-      sp = refl;
-      a = is_a ∙ sym (word_low (t.mem (ax_of t)) (t.mem (ax_of t + 1)) b0);
-      x = is_x ∙ sym (word_high (t.mem (ax_of t)) (t.mem (ax_of t + 1)) b0 b1);
-      sreg = tt;
-      pointers = tt;
-      bank = tt;
-      mem = λ b h. refl;
-      input = refl;
-      output = sym (append-nil t.output);
-      ended = may.running;
-    })))
+    (λ a x n z is_a is_x. ends_plain (ldaxi_row t) back t a x 0 n t.regs.v z t.regs.c (pointing t) t.mem ((8, t.regs.a) ∷ (9, t.regs.x) ∷ []) refl may.running (tt, tt, refl, refl) (λ i two. refl)
+    refl (is_a ∙ sym (word_low (t.mem (ax_of t)) (t.mem (ax_of t + 1)) b0), is_x ∙ sym (word_high (t.mem (ax_of t)) (t.mem (ax_of t + 1)) b0 b1), tt) (λ b h. refl)))
 
 pub ldaxi : (s : RawSetting) → s.lines (s.routine routines.LdAxi) ≡ lines_of routines.LdAxi → MeetsRow s routines.LdAxi
 ldaxi s has = meets_by s routines.LdAxi ldaxi_row (λ t. refl) (ldaxi_runs s has)
@@ -155,25 +120,8 @@ ldeaxi_runs s has back t may =
     runs s routines.LdEaxi (ldeaxi_row t) back t ldeaxi_lines has (record { onward = refl; weight = refl; depth = refl }) refl may
     (ldeaxi_at s.place (reach_of t) (Ends (ldeaxi_row t) t) (ax_of t) (called back t) (omega arith) (omega arith) (omega arith) (omega arith) bytes
     (λ a x l h n z is_a is_x is_l is_h. let long : IsLong t.mem (ax_of t) a x l h = is_long t.mem (ax_of t) a x l h may.bytes.mem is_a is_x is_l is_h in
-    ends_by (ldeaxi_row t) t (left (called back t) a x 0 n t.regs.v z t.regs.c (write (write (pointing t) 3 h) 2 l) t.mem) ((8, t.regs.a) ∷ (9, t.regs.x) ∷ (3, h) ∷ (2, l) ∷ []) (record {
-      zp = λ i two. refl;
-      fit = refl;
-      small = (refl, refl, refl, refl, refl);
-      low_kept = refl;
-      high_kept = refl;
-      a_kept = tt;
-      x_kept = tt;
-      sp = refl;
-      a = long.a;
-      x = long.x;
-      sreg = long.sreg;
-      pointers = tt;
-      bank = tt;
-      mem = λ b h. refl;
-      input = refl;
-      output = sym (append-nil t.output);
-      ended = may.running;
-    })))
+    ends_plain (ldeaxi_row t) back t a x 0 n t.regs.v z t.regs.c (write (write (pointing t) 3 h) 2 l) t.mem ((8, t.regs.a) ∷ (9, t.regs.x) ∷ (3, h) ∷ (2, l) ∷ []) refl may.running (tt, tt, refl, refl) (λ i two. refl)
+    refl (long.a, long.x, long.sreg) (λ b h. refl)))
 
 pub ldeaxi : (s : RawSetting) → s.lines (s.routine routines.LdEaxi) ≡ lines_of routines.LdEaxi → MeetsRow s routines.LdEaxi
 ldeaxi s has = meets_by s routines.LdEaxi ldeaxi_row (λ t. refl) (ldeaxi_runs s has)

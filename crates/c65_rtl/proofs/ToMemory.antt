@@ -15,6 +15,7 @@ use Rattle.c65_rtl.specs.Memory.{save_bank}
 use Rattle.c65_rtl.specs.Routines.{lines_of}
 use Rattle.c65_rtl.proofs.Ways.{leads, Ends, runs}
 use Rattle.c65_rtl.proofs.Meeting.{ends_by}
+use Rattle.c65_rtl.proofs.Plain.{ends_plain}
 use Rattle.c65_rtl.proofs.Opens.{OpenBytes, opens_near, opens_far}
 use Rattle.c65_rtl.proofs.SpPieces.{left, raise_two_at, lowers_by}
 use Rattle.c65_rtl.proofs.Pushes.{meets_by, write_where, write_cong, sreg_kept}
@@ -109,25 +110,8 @@ statos_runs s has back t may =
     (first_at s.place (reach_of t) P raise_two (sp_of t) to (called back t) (omega arith) (omega arith) (omega arith) (near.first n0) (near.reach 1 n1) (far.first k0)
     (λ l h m w mem is_l is_h stored.
     raise_two_at s.place (reach_of t) P (record (called back t) { regs = record t.regs { y = 0; n = m; z = w }; zp = held t l h; mem = mem }) (may.bytes.zp 0) (may.bytes.zp 1) (omega arith)
-    (λ y n v z c zp moved. ends_by (statos_row t) t (left (called back t) t.regs.a t.regs.x y n v z c zp mem) ((16, t.regs.a) ∷ (9, h) ∷ (8, l) ∷ []) (record {
-      zp = moved.rest;
-      fit = refl;
-      small = (refl, refl, refl, refl, refl);
-      low_kept = tt;
-      high_kept = tt;
-      a_kept = refl;
-      x_kept = tt;
-      sp = moved.sp;
-      a = refl;
-      x = tt;
-      sreg = tt;
-      pointers = tt;
-      bank = tt;
-      mem = λ b i. stored b;
-      input = refl;
-      output = sym (append-nil t.output);
-      ended = may.running;
-    }))))
+    (λ y n v z c zp moved. ends_plain (statos_row t) back t t.regs.a t.regs.x y n v z c zp mem ((16, t.regs.a) ∷ (9, h) ∷ (8, l) ∷ []) refl may.running (refl, tt, tt, tt) moved.rest
+    moved.sp (refl, tt, tt) (λ b i. stored b))))
 
 pub statos : (s : RawSetting) → s.lines (s.routine routines.StATos) ≡ lines_of routines.StATos → MeetsRow s routines.StATos
 statos s has = meets_by s routines.StATos statos_row (λ t. refl) (statos_runs s has)
@@ -155,25 +139,8 @@ staxtos_runs s has back t may =
     second_at s.place (reach_of t) P (zero_page Lda tmp1 ∷ raise_two) (to + 1) (record (called back t) { regs = record t.regs { y = 0; n = m; z = w }; zp = held t l h; mem = mem }) (omega arith) (far.reach 1 k1)
     (λ m1 w1 mem1 stored1. held_at s.place (reach_of t) P raise_two (record (called back t) { regs = record t.regs { a = t.regs.x; y = 1; n = m1; z = w1 }; zp = held t l h; mem = mem1 })
     (λ m2 w2. raise_two_at s.place (reach_of t) P (record (called back t) { regs = record t.regs { y = 1; n = m2; z = w2 }; zp = held t l h; mem = mem1 }) (may.bytes.zp 0) (may.bytes.zp 1) (omega arith)
-    (λ y n v z c zp moved. ends_by (staxtos_row t) t (left (called back t) t.regs.a t.regs.x y n v z c zp mem1) ((16, t.regs.a) ∷ (9, h) ∷ (8, l) ∷ []) (record {
-      zp = moved.rest;
-      fit = refl;
-      small = (refl, refl, refl, refl, refl);
-      low_kept = tt;
-      high_kept = tt;
-      a_kept = refl;
-      x_kept = refl;
-      sp = moved.sp;
-      a = refl;
-      x = refl;
-      sreg = tt;
-      pointers = tt;
-      bank = tt;
-      mem = λ b i. stored1 b ∙ write_cong mem (write t.mem to t.regs.a) (to + 1) t.regs.x b (stored b);
-      input = refl;
-      output = sym (append-nil t.output);
-      ended = may.running;
-    }))))))
+    (λ y n v z c zp moved. ends_plain (staxtos_row t) back t t.regs.a t.regs.x y n v z c zp mem1 ((16, t.regs.a) ∷ (9, h) ∷ (8, l) ∷ []) refl may.running (refl, refl, tt, tt) moved.rest
+    moved.sp (refl, refl, tt) (λ b i. stored1 b ∙ write_cong mem (write t.mem to t.regs.a) (to + 1) t.regs.x b (stored b)))))))
 
 pub staxtos : (s : RawSetting) → s.lines (s.routine routines.StAxTos) ≡ lines_of routines.StAxTos → MeetsRow s routines.StAxTos
 staxtos s has = meets_by s routines.StAxTos staxtos_row (λ t. refl) (staxtos_runs s has)
@@ -208,29 +175,12 @@ steaxtos_runs s has back t may =
     (reach_as s.place (reach_of t) (to + 1 + 1) (to + 2) third (far.reach 2 k2)) (reach_as s.place (reach_of t) (to + 1 + 1 + 1) (to + 3) fourth (far.reach 3 k3))
     (λ a2 y2 m2 w2 mem2 stored2. held_at s.place (reach_of t) P raise_two (record (called back t) { regs = record t.regs { a = a2; y = y2; n = m2; z = w2 }; zp = held t l h; mem = mem2 })
     (λ m3 w3. raise_two_at s.place (reach_of t) P (record (called back t) { regs = record t.regs { y = y2; n = m3; z = w3 }; zp = held t l h; mem = mem2 }) (may.bytes.zp 0) (may.bytes.zp 1) (omega arith)
-    (λ y n v z c zp moved. ends_by (steaxtos_row t) t (left (called back t) t.regs.a t.regs.x y n v z c zp mem2) ((16, t.regs.a) ∷ (9, h) ∷ (8, l) ∷ []) (record {
-      zp = moved.rest;
-      fit = refl;
-      small = (refl, refl, refl, refl, refl);
-      low_kept = tt;
-      high_kept = tt;
-      a_kept = refl;
-      x_kept = refl;
-      sp = moved.sp;
-      a = refl;
-      x = refl;
-      sreg = sreg_kept _ _ _ moved;
-      pointers = tt;
-      bank = tt;
-      mem = λ b i.
-          (let n1 : Bytes = write t.mem to t.regs.a in
-          let n2 : Bytes = write n1 (to + 1) t.regs.x in
-          let step : mem1 b ≡ n2 b = stored1 b ∙ write_cong mem n1 (to + 1) t.regs.x b (stored b) in
-          stored2 b ∙ write_cong (write mem1 (to + 1 + 1) (t.zp 2)) (write n2 (to + 1 + 1) (t.zp 2)) (to + 1 + 1 + 1) (t.zp 3) b (write_cong mem1 n2 (to + 1 + 1) (t.zp 2) b step));
-      input = refl;
-      output = sym (append-nil t.output);
-      ended = may.running;
-    })))))))
+    (λ y n v z c zp moved. ends_plain (steaxtos_row t) back t t.regs.a t.regs.x y n v z c zp mem2 ((16, t.regs.a) ∷ (9, h) ∷ (8, l) ∷ []) refl may.running (refl, refl, tt, tt) moved.rest
+    moved.sp (refl, refl, sreg_kept _ _ _ moved) (λ b i.
+    (let n1 : Bytes = write t.mem to t.regs.a in
+    let n2 : Bytes = write n1 (to + 1) t.regs.x in
+    let step : mem1 b ≡ n2 b = stored1 b ∙ write_cong mem n1 (to + 1) t.regs.x b (stored b) in
+    stored2 b ∙ write_cong (write mem1 (to + 1 + 1) (t.zp 2)) (write n2 (to + 1 + 1) (t.zp 2)) (to + 1 + 1 + 1) (t.zp 3) b (write_cong mem1 n2 (to + 1 + 1) (t.zp 2) b step)))))))))
 
 pub steaxtos : (s : RawSetting) → s.lines (s.routine routines.StEaxTos) ≡ lines_of routines.StEaxTos → MeetsRow s routines.StEaxTos
 steaxtos s has = meets_by s routines.StEaxTos steaxtos_row (λ t. refl) (steaxtos_runs s has)
@@ -299,25 +249,8 @@ saveregs_runs s has back t may =
     let z3 : zp 23 ≡ t.zp 23 = moved.rest 23 (omega arith) in
     let z4 : zp 24 ≡ t.zp 24 = moved.rest 24 (omega arith) in
     let z5 : zp 25 ≡ t.zp 25 = moved.rest 25 (omega arith) in
-    ends_by (saveregs_row t) t (left (called back t) t.regs.a t.regs.x 5 n w y c zp mem) [] (record {
-      zp = moved.rest;
-      fit = refl;
-      small = (refl, refl, refl, refl, refl);
-      low_kept = tt;
-      high_kept = tt;
-      a_kept = refl;
-      x_kept = refl;
-      sp = moved.sp;
-      a = refl;
-      x = refl;
-      sreg = sreg_kept _ _ _ moved;
-      pointers = tt;
-      bank = tt;
-      mem = λ b i. stored b ∙ (ap (λ (k : ℕ). write (write (write (write (write (write t.mem (sp_of t - 6) (k)) (sp_of t - 6 + 1) (zp 21)) (sp_of t - 6 + 1 + 1) (zp 22)) (sp_of t - 6 + 1 + 1 + 1) (zp 23)) (sp_of t - 6 + 1 + 1 + 1 + 1) (zp 24)) (sp_of t - 6 + 1 + 1 + 1 + 1 + 1) (zp 25) b) z0 ∙ (ap (λ (k : ℕ). write (write (write (write (write (write t.mem (sp_of t - 6) (t.zp 20)) (sp_of t - 6 + 1) (k)) (sp_of t - 6 + 1 + 1) (zp 22)) (sp_of t - 6 + 1 + 1 + 1) (zp 23)) (sp_of t - 6 + 1 + 1 + 1 + 1) (zp 24)) (sp_of t - 6 + 1 + 1 + 1 + 1 + 1) (zp 25) b) z1 ∙ (ap (λ (k : ℕ). write (write (write (write (write (write t.mem (sp_of t - 6) (t.zp 20)) (sp_of t - 6 + 1) (t.zp 21)) (sp_of t - 6 + 1 + 1) (k)) (sp_of t - 6 + 1 + 1 + 1) (zp 23)) (sp_of t - 6 + 1 + 1 + 1 + 1) (zp 24)) (sp_of t - 6 + 1 + 1 + 1 + 1 + 1) (zp 25) b) z2 ∙ (ap (λ (k : ℕ). write (write (write (write (write (write t.mem (sp_of t - 6) (t.zp 20)) (sp_of t - 6 + 1) (t.zp 21)) (sp_of t - 6 + 1 + 1) (t.zp 22)) (sp_of t - 6 + 1 + 1 + 1) (k)) (sp_of t - 6 + 1 + 1 + 1 + 1) (zp 24)) (sp_of t - 6 + 1 + 1 + 1 + 1 + 1) (zp 25) b) z3 ∙ (ap (λ (k : ℕ). write (write (write (write (write (write t.mem (sp_of t - 6) (t.zp 20)) (sp_of t - 6 + 1) (t.zp 21)) (sp_of t - 6 + 1 + 1) (t.zp 22)) (sp_of t - 6 + 1 + 1 + 1) (t.zp 23)) (sp_of t - 6 + 1 + 1 + 1 + 1) (k)) (sp_of t - 6 + 1 + 1 + 1 + 1 + 1) (zp 25) b) z4 ∙ (ap (λ (k : ℕ). write (write (write (write (write (write t.mem (sp_of t - 6) (t.zp 20)) (sp_of t - 6 + 1) (t.zp 21)) (sp_of t - 6 + 1 + 1) (t.zp 22)) (sp_of t - 6 + 1 + 1 + 1) (t.zp 23)) (sp_of t - 6 + 1 + 1 + 1 + 1) (t.zp 24)) (sp_of t - 6 + 1 + 1 + 1 + 1 + 1) (k) b) z5))))));
-      input = refl;
-      output = sym (append-nil t.output);
-      ended = may.running;
-    }))))
+    ends_plain (saveregs_row t) back t t.regs.a t.regs.x 5 n w y c zp mem [] refl may.running (refl, refl, tt, tt) moved.rest
+    moved.sp (refl, refl, sreg_kept _ _ _ moved) (λ b i. stored b ∙ (ap (λ (k : ℕ). write (write (write (write (write (write t.mem (sp_of t - 6) (k)) (sp_of t - 6 + 1) (zp 21)) (sp_of t - 6 + 1 + 1) (zp 22)) (sp_of t - 6 + 1 + 1 + 1) (zp 23)) (sp_of t - 6 + 1 + 1 + 1 + 1) (zp 24)) (sp_of t - 6 + 1 + 1 + 1 + 1 + 1) (zp 25) b) z0 ∙ (ap (λ (k : ℕ). write (write (write (write (write (write t.mem (sp_of t - 6) (t.zp 20)) (sp_of t - 6 + 1) (k)) (sp_of t - 6 + 1 + 1) (zp 22)) (sp_of t - 6 + 1 + 1 + 1) (zp 23)) (sp_of t - 6 + 1 + 1 + 1 + 1) (zp 24)) (sp_of t - 6 + 1 + 1 + 1 + 1 + 1) (zp 25) b) z1 ∙ (ap (λ (k : ℕ). write (write (write (write (write (write t.mem (sp_of t - 6) (t.zp 20)) (sp_of t - 6 + 1) (t.zp 21)) (sp_of t - 6 + 1 + 1) (k)) (sp_of t - 6 + 1 + 1 + 1) (zp 23)) (sp_of t - 6 + 1 + 1 + 1 + 1) (zp 24)) (sp_of t - 6 + 1 + 1 + 1 + 1 + 1) (zp 25) b) z2 ∙ (ap (λ (k : ℕ). write (write (write (write (write (write t.mem (sp_of t - 6) (t.zp 20)) (sp_of t - 6 + 1) (t.zp 21)) (sp_of t - 6 + 1 + 1) (t.zp 22)) (sp_of t - 6 + 1 + 1 + 1) (k)) (sp_of t - 6 + 1 + 1 + 1 + 1) (zp 24)) (sp_of t - 6 + 1 + 1 + 1 + 1 + 1) (zp 25) b) z3 ∙ (ap (λ (k : ℕ). write (write (write (write (write (write t.mem (sp_of t - 6) (t.zp 20)) (sp_of t - 6 + 1) (t.zp 21)) (sp_of t - 6 + 1 + 1) (t.zp 22)) (sp_of t - 6 + 1 + 1 + 1) (t.zp 23)) (sp_of t - 6 + 1 + 1 + 1 + 1) (k)) (sp_of t - 6 + 1 + 1 + 1 + 1 + 1) (zp 25) b) z4 ∙ (ap (λ (k : ℕ). write (write (write (write (write (write t.mem (sp_of t - 6) (t.zp 20)) (sp_of t - 6 + 1) (t.zp 21)) (sp_of t - 6 + 1 + 1) (t.zp 22)) (sp_of t - 6 + 1 + 1 + 1) (t.zp 23)) (sp_of t - 6 + 1 + 1 + 1 + 1) (t.zp 24)) (sp_of t - 6 + 1 + 1 + 1 + 1 + 1) (k) b) z5))))))))))
 
 pub saveregs : (s : RawSetting) → s.lines (s.routine routines.SaveRegs) ≡ lines_of routines.SaveRegs → MeetsRow s routines.SaveRegs
 saveregs s has = meets_by s routines.SaveRegs saveregs_row (λ t. refl) (saveregs_runs s has)

@@ -1,7 +1,6 @@
 -- The widenings of A and AX.
 use Rattle.std.proofs.Common.{◌≡◌, ℕ, suc, ◌+◌, ◌*◌, ◌<◌, ◌≤◌, inl, inr, Bool, true, false, [], ◌∷◌, Some, None, refl, sym, ap, arith}
 use Rattle.std.specs.Prelude.{if◌then◌else◌, nat_lt}
-use Rattle.std.proofs.lemmas.List.{append-nil}
 use Rattle.std.proofs.lemmas.Bool.Decides.{Decides-ltb, leb_tells}
 use Rattle.c65_code.specs.declared.routine.Routine.TheVariants as routines
 use Rattle.c65_code.specs.LineState.{Place, write, State}
@@ -11,7 +10,8 @@ use Rattle.c65_code.specs.RawMachine.{RawSetting, Bounds, called, MayRun, Runs, 
 use Rattle.c65_rtl.specs.Unary.{sign_byte, sign_word, zero_word}
 use Rattle.c65_rtl.specs.Routines.{lines_of}
 use Rattle.c65_rtl.proofs.Ways.{leads, Ends, runs}
-use Rattle.c65_rtl.proofs.Meeting.{lt_true, lt_false, not_true, not_false, ends_by}
+use Rattle.c65_rtl.proofs.Meeting.{lt_true, lt_false, not_true, not_false}
+use Rattle.c65_rtl.proofs.Plain.{ends_plain}
 use Rattle.c65_rtl.proofs.SpPieces.{left}
 use Rattle.c65_rtl.proofs.Pushes.{meets_by}
 
@@ -44,25 +44,8 @@ signs_a : (s : RawSetting) → s.lines (s.routine routines.SignA) ≡ sign_byte 
 signs_a s has back t may =
     runs s routines.SignA (signa_row t) back t sign_byte has (record { onward = refl; weight = refl; depth = refl }) refl may
     (sign_byte_at s.place (reach_of t) (Ends (signa_row t) t) (called back t)
-    (λ x y n v z c is_x. ends_by (signa_row t) t (left (called back t) t.regs.a x y n v z c t.zp t.mem) [] (record {
-      zp = λ i two. refl;
-      fit = refl;
-      small = (refl, refl, refl, refl, refl);
-      low_kept = refl;
-      high_kept = refl;
-      a_kept = tt;
-      x_kept = tt;
-      sp = refl;
-      a = refl;
-      x = is_x;
-      sreg = tt;
-      pointers = tt;
-      bank = tt;
-      mem = λ b h. refl;
-      input = refl;
-      output = sym (append-nil t.output);
-      ended = may.running;
-    })))
+    (λ x y n v z c is_x. ends_plain (signa_row t) back t t.regs.a x y n v z c t.zp t.mem [] refl may.running (tt, tt, refl, refl) (λ i two. refl)
+    refl (refl, is_x, tt) (λ b h. refl)))
 
 -- longax
 abbrev word_extension : ℕ → ℕ
@@ -87,25 +70,8 @@ widens_signed : (s : RawSetting) → s.lines (s.routine routines.LongAx) ≡ sig
 widens_signed s has back t may =
     runs s routines.LongAx (longax_row t) back t sign_word has (record { onward = refl; weight = refl; depth = refl }) refl may
     (sign_word_at s.place (reach_of t) (Ends (longax_row t) t) (called back t)
-    (λ y k n v z c is_k. ends_by (longax_row t) t (left (called back t) t.regs.a t.regs.x y n v z c (write (write t.zp 2 k) 3 k) t.mem) ((2, k) ∷ (3, k) ∷ []) (record {
-      zp = λ i two. refl;
-      fit = refl;
-      small = (refl, refl, refl, refl, refl);
-      low_kept = refl;
-      high_kept = refl;
-      a_kept = refl;
-      x_kept = refl;
-      sp = refl;
-      a = refl;
-      x = refl;
-      sreg = is_k;
-      pointers = tt;
-      bank = tt;
-      mem = λ b h. refl;
-      input = refl;
-      output = sym (append-nil t.output);
-      ended = may.running;
-    })))
+    (λ y k n v z c is_k. ends_plain (longax_row t) back t t.regs.a t.regs.x y n v z c (write (write t.zp 2 k) 3 k) t.mem ((2, k) ∷ (3, k) ∷ []) refl may.running (refl, refl, refl, refl) (λ i two. refl)
+    refl (refl, refl, is_k) (λ b h. refl)))
 
 -- ulongax
 zero_word_at : (place : Placement) (bounds : Bounds) (P : State → Type 0) (u : State)
@@ -120,25 +86,8 @@ widens_unsigned : (s : RawSetting) → s.lines (s.routine routines.ULongAx) ≡ 
 widens_unsigned s has back t may =
     runs s routines.ULongAx (ulongax_row t) back t zero_word has (record { onward = refl; weight = refl; depth = refl }) refl may
     (zero_word_at s.place (reach_of t) (Ends (ulongax_row t) t) (called back t)
-    (λ n z. ends_by (ulongax_row t) t (left (called back t) t.regs.a t.regs.x 0 n t.regs.v z t.regs.c (write (write t.zp 2 0) 3 0) t.mem) ((2, 0) ∷ (3, 0) ∷ []) (record {
-      zp = λ i two. refl;
-      fit = refl;
-      small = (refl, refl, refl, refl, refl);
-      low_kept = refl;
-      high_kept = refl;
-      a_kept = refl;
-      x_kept = refl;
-      sp = refl;
-      a = refl;
-      x = refl;
-      sreg = refl;
-      pointers = tt;
-      bank = tt;
-      mem = λ b h. refl;
-      input = refl;
-      output = sym (append-nil t.output);
-      ended = may.running;
-    })))
+    (λ n z. ends_plain (ulongax_row t) back t t.regs.a t.regs.x 0 n t.regs.v z t.regs.c (write (write t.zp 2 0) 3 0) t.mem ((2, 0) ∷ (3, 0) ∷ []) refl may.running (refl, refl, refl, refl) (λ i two. refl)
+    refl (refl, refl, refl) (λ b h. refl)))
 
 pub signa : (s : RawSetting) → s.lines (s.routine routines.SignA) ≡ lines_of routines.SignA → MeetsRow s routines.SignA
 signa s has = meets_by s routines.SignA signa_row (λ t. refl) (signs_a s has)

@@ -35,7 +35,7 @@ straight_comes s below r row lines goes_on has onward by bounds back t may =
 abbrev pub loud : Row → Row
 loud row = record row { room = 64 }
 
-more_room : (row : Row) (t : State) (b : ℕ) → row.room ≤ 64 → (b + 64 < sp_of t) ⊎ ((sp_of t ≤ b) ⊎ (row.sp ≤ b)) → (b + row.room < sp_of t) ⊎ ((sp_of t ≤ b) ⊎ (row.sp ≤ b))
+more_room : (row : Row) (t : State) (b : ℕ) → row.room ≤ 64 → (b + 64 < sp_of t) ⊎ ((sp_of t ≤ b) ⊎ (row.settled ≤ b)) → (b + row.room < sp_of t) ⊎ ((sp_of t ≤ b) ⊎ (row.settled ≤ b))
 more_room row t b few (inl below) = inl (omega arith)
 more_room row t b few (inr above) = inr above
 

@@ -101,10 +101,10 @@ module _ (s : RawSetting) (t : State) (text : List ℕ) (back : Place) (call : C
   abbrev Done : Place → State → Type 0
   Done q u = HasDone None (text_row text t) back t q u
 
-  fixed : (b : ℕ) → (b + 64 < sp_of t) ⊎ ((sp_of t ≤ b) ⊎ ((sp_of t + t.regs.y) % 65536 ≤ b)) → (b + 64 < sp_of t) ⊎ (sp_of t ≤ b)
+  fixed : (b : ℕ) → (b + 64 < sp_of t) ⊎ ((sp_of t ≤ b) ⊎ (sp_of t ≤ b)) → (b + 64 < sp_of t) ⊎ (sp_of t ≤ b)
   fixed b (inl below) = inl below
   fixed b (inr (inl above)) = inr above
-  fixed b (inr (inr far)) = let top = call.top in inr (omega arith)
+  fixed b (inr (inr above)) = inr above
 
   row_ends : (p size : ℕ) (u w : State) (n z : Bool) → Reading s t text p size [] u → sp_of u ≡ sp_of t → IsBytes u → Meets (added_row (taken_off u t.regs.y n z)) (taken_off u t.regs.y n z) w → Ends (text_row text t) t w
   row_ends p size u w n z r sp_is bytes m =

@@ -1,6 +1,8 @@
-//! Laws of the runtime: its routines do what their rows say.
+//! Laws of the runtime: its routines do what their rows say; and the routines by that.
 #![tactic(auto)]
 
 mod laws;
+mod routines;
 
-pub use laws::the_runtime_is_met;
+pub use laws::{routines_are_met, the_runtime_is_met};
+pub use routines::take_routine;
