@@ -1,20 +1,16 @@
 -- Pieces of a replacement.
-use Rattle.std.proofs.Common.{◌≡◌, ℕ, List, [], ◌∷◌, ◌++◌, refl, sym, ap, ◌∙◌, subst, append_assoc, Option, Some, None, option_map, Bool, true, false, Bor, Result, Ok, Err}
+use Rattle.std.proofs.Common.{◌≡◌, ℕ, List, [], ◌∷◌, ◌++◌, refl, sym, ap, ◌∙◌, append_assoc, Option, Some, None, option_map, Bool, true, false, Bor}
 use Rattle.std.specs.Prelude.{if◌then◌else◌, ◌||◌}
-use Rattle.std.proofs.lemmas.List.{append-nil}
 use Rattle.c65_base.specs.declared.names.Name.{Name}
 use Rattle.c65_base.specs.declared.refusal.Pos.{Pos}
-use Rattle.c65_base.specs.declared.refusal.Refusal.{Refusal}
 use Rattle.c65_lex.specs.declared.token.PpToken.{PpToken}
 use Rattle.c65_macro.specs.declared.sets.Node.{Node}
 use Rattle.c65_macro.specs.declared.marked.Marked.{Marked}
 use Rattle.c65_macro.specs.declared.fill.Used.{Used}
-use Rattle.c65_macro.specs.declared.fill.Filled.{Filled}
-use Rattle.c65_macro.specs.Sets.{Set, none, either, set_of}
-use Rattle.c65_macro.specs.Items.{Item, Outcome, unfinished, faulty, done, ◌>>=◌, tokens, hide_all, hidden, with_space}
-use Rattle.c65_macro.specs.Fill.{Use, Filling, join, glue, operand, plain, literal, string_of, argument_of, stands, begins_paste, attach, next, fill, replacement, start}
-use Rattle.c65_macro.specs.Answered.{Stops, Gives}
-use Rattle.c65_macro.specs.Views.{item_of, items_of, lists_of, tokens_of, use_of, filling_of}
+use Rattle.c65_macro.specs.Sets.{Set, either, set_of}
+use Rattle.c65_macro.specs.Items.{Item, Outcome, done, ◌>>=◌, hide_all}
+use Rattle.c65_macro.specs.Fill.{join, glue, operand, plain, literal, string_of, argument_of, stands, begins_paste}
+use Rattle.c65_macro.specs.Views.{item_of, items_of, tokens_of, use_of}
 use Rattle.c65_macro.proofs.Seen.{bind_assoc, seen_argument, tokens_items, items_push, items_append}
 
 pub join_none : (names : List (List ℕ)) (place : Pos) (xs : List Item) → join names place xs [] ≡ done names xs

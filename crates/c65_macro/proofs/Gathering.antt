@@ -1,21 +1,20 @@
 -- The arguments of a use, one token after another.
 use Rattle.std.proofs.Common.{◌≡◌, ◌≢◌, ℕ, zero, suc, ◌+◌, ◌-◌, List, [], ◌∷◌, ◌++◌, refl, sym, ap, ◌∙◌, subst, arith, Bool, true, false, Result, Ok, Err}
 use Rattle.std.proofs.lemmas.List.{map-append}
-use Rattle.c65_base.specs.declared.refusal.Pos.{Pos}
 use Rattle.c65_base.specs.declared.refusal.Refusal.{Refusal}
-use Rattle.c65_base.specs.declared.refusal.Refusal.TheVariants as refusals
 use Rattle.c65_macro.specs.declared.item.Words.{Words}
 use Rattle.c65_macro.specs.declared.sets.Node.{Node}
 use Rattle.c65_macro.specs.declared.marked.Marked.{Marked}
 use Rattle.c65_macro.specs.declared.uses.Role.{Role}
-use Rattle.c65_macro.specs.declared.uses.Role.TheVariants.{Opening, Closing, Comma, LineEnd, Other}
+use Rattle.c65_macro.specs.declared.uses.Role.TheVariants.{Opening, Closing, Comma, Other}
 use Rattle.c65_macro.specs.declared.gather.Gathered.{Gathered}
 use Rattle.c65_macro.specs.declared.gather.Arguments.{Arguments}
+use Rattle.c65_macro.specs.declared.gather.Inside.TheVariants as insides
 use Rattle.c65_macro.specs.Items.{Item, put_count}
-use Rattle.c65_macro.specs.Uses.{Gathering, unclosed, above, closed, role, gather, gather_as, one_more, gathered, next_argument}
+use Rattle.c65_macro.specs.Uses.{Gathering, closed, role, gather, gather_as, one_more, gathered, next_argument}
 use Rattle.c65_macro.specs.Views.{item_of, items_of, lists_of, put_of}
 use Rattle.c65_macro.specs.Machine.{gather_in, StopsGathering, IsAdded, IsSeparated, IsTaken, IsGathered}
-use Rattle.c65_macro.proofs.Seen.{put_seen}
+use Rattle.c65_macro.proofs.Tails.{put_more}
 
 stops_as : (e : Refusal) (g h : Gathering) → g ≡ h → StopsGathering e h → StopsGathering e g
 stops_as e g h q s = let P : Gathering → Type 0 = λ z. StopsGathering e z in subst P (sym q) s
@@ -90,31 +89,30 @@ take_end nodes w outside g i is ro z = as_role nodes w outside g i is Closing ro
 abbrev pub Taking : List Node → Words → ℕ → ℕ → Gathered → Marked → Role → Result Bool Refusal → Gathered → Type 0
 Taking nodes w outside put g m r a h = (is : List Item) → role w m.token ≡ r → put_count is ≡ put → IsTaken nodes w outside g (item_of nodes m) is a h
 
-pub taking : (nodes : List Node) (w : Words) (outside put : ℕ) (g : Gathered) (m : Marked) (ms : List Marked) (r : Role) (a : Result Bool Refusal) (h : Gathered)
-    → r ≡ role w m.token → put ≡ put_of ms → Taking nodes w outside put g m r a h → IsTaken nodes w outside g (item_of nodes m) (items_of nodes ms) a h
-taking nodes w outside put g m ms r a h er ep t = t (items_of nodes ms) (sym er) (put_seen nodes ms ∙ sym ep)
+pub taking : (nodes : List Node) (w : Words) (outside put : ℕ) (g : Gathered) (m : Marked) (ms : List Marked) (tail : List Item) (r : Role) (a : Result Bool Refusal) (h : Gathered)
+    → r ≡ role w m.token → put ≡ put_of ms → put_count tail ≡ 0 → Taking nodes w outside put g m r a h → IsTaken nodes w outside g (item_of nodes m) (items_of nodes ms ++ tail) a h
+taking nodes w outside put g m ms tail r a h er ep et t = t (items_of nodes ms ++ tail) (sym er) (put_more nodes ms tail et ∙ sym ep)
 
-pub gather_more : (nodes : List Node) (w : Words) (outside : ℕ) (g h : Gathered) (m : Marked) (ms old : List Marked) (start : Gathering) (ends : Bool) → ends ≡ false → old ≡ m ∷ ms
-    → gather_in nodes w outside g (items_of nodes old) ≡ start → IsTaken nodes w outside g (item_of nodes m) (items_of nodes ms) (Ok ends) h → gather_in nodes w outside h (items_of nodes ms) ≡ start
-gather_more nodes w outside g h m ms old start true z e s t = absurd cc
-gather_more nodes w outside g h m ms old start false z e s t = sym t ∙ ap (λ l. gather_in nodes w outside g (items_of nodes l)) (sym e) ∙ s
+pub gather_more : (nodes : List Node) (w : Words) (outside : ℕ) (g h : Gathered) (m : Marked) (ms old : List Marked) (tail : List Item) (start : Gathering) (ends : Bool) → ends ≡ false → old ≡ m ∷ ms
+    → gather_in nodes w outside g (items_of nodes old ++ tail) ≡ start → IsTaken nodes w outside g (item_of nodes m) (items_of nodes ms ++ tail) (Ok ends) h → gather_in nodes w outside h (items_of nodes ms ++ tail) ≡ start
+gather_more nodes w outside g h m ms old tail start true z e s t = absurd cc
+gather_more nodes w outside g h m ms old tail start false z e s t = sym t ∙ ap (λ l. gather_in nodes w outside g (items_of nodes l ++ tail)) (sym e) ∙ s
 
-pub gather_end : (nodes : List Node) (w : Words) (outside : ℕ) (g h : Gathered) (m : Marked) (ms old : List Marked) (start : Gathering) (ends : Bool) (a : Arguments) (place : Pos) → ends ≡ true → old ≡ m ∷ ms
-    → gather_in nodes w outside g (items_of nodes old) ≡ start → IsTaken nodes w outside g (item_of nodes m) (items_of nodes ms) (Ok ends) h
-    → a.lists.items ≡ h.lists.items ++ h.list.items ∷ [] → a.size ≡ h.size → a.close ≡ m → IsGathered nodes place (Ok a) ms start
-gather_end nodes w outside g h m ms old start false a place z e s t l n c = absurd cc
-gather_end nodes w outside g h m ms old start true a place z e s t l n c =
+pub gather_end : (nodes : List Node) (w : Words) (outside : ℕ) (g h : Gathered) (m : Marked) (ms old : List Marked) (tail : List Item) (start : Gathering) (ends : Bool) (a : Arguments) → ends ≡ true → old ≡ m ∷ ms
+    → gather_in nodes w outside g (items_of nodes old ++ tail) ≡ start → IsTaken nodes w outside g (item_of nodes m) (items_of nodes ms ++ tail) (Ok ends) h
+    → a.lists.items ≡ h.lists.items ++ h.list.items ∷ [] → a.size ≡ h.size → a.close ≡ m → IsGathered nodes w outside tail (Ok (insides.Closed a)) ms start
+gather_end nodes w outside g h m ms old tail start false a z e s t l n c = absurd cc
+gather_end nodes w outside g h m ms old tail start true a z e s t l n c =
+    let is = items_of nodes ms ++ tail in
     let lists : lists_of nodes a.lists.items ≡ lists_of nodes h.lists.items ++ items_of nodes h.list.items ∷ [] = ap (λ x. lists_of nodes x) l ∙ map-append (items_of nodes) h.lists.items (h.list.items ∷ []) in
-    let all : closed (lists_of nodes h.lists.items ++ items_of nodes h.list.items ∷ []) h.size (item_of nodes m) (items_of nodes ms) ≡ closed (lists_of nodes a.lists.items) a.size (item_of nodes a.close) (items_of nodes ms) =
-    ap (λ x. closed x h.size (item_of nodes m) (items_of nodes ms)) (sym lists) ∙ ap (λ (k : ℕ). closed (lists_of nodes a.lists.items) k (item_of nodes m) (items_of nodes ms)) (sym n) ∙ ap (λ (k : Marked). closed (lists_of nodes a.lists.items) a.size (item_of nodes k) (items_of nodes ms)) (sym c) in
-    sym s ∙ ap (λ l. gather_in nodes w outside g (items_of nodes l)) e ∙ t ∙ all
+    let all : closed (lists_of nodes h.lists.items ++ items_of nodes h.list.items ∷ []) h.size (item_of nodes m) is ≡ closed (lists_of nodes a.lists.items) a.size (item_of nodes a.close) is =
+    ap (λ x. closed x h.size (item_of nodes m) is) (sym lists) ∙ ap (λ (k : ℕ). closed (lists_of nodes a.lists.items) k (item_of nodes m) is) (sym n) ∙ ap (λ (k : Marked). closed (lists_of nodes a.lists.items) a.size (item_of nodes k) is) (sym c) in
+    sym s ∙ ap (λ l. gather_in nodes w outside g (items_of nodes l ++ tail)) e ∙ t ∙ all
 
-pub gather_stop : (nodes : List Node) (w : Words) (outside : ℕ) (g h : Gathered) (m : Marked) (ms old : List Marked) (start : Gathering) (x : Refusal) (place : Pos) → old ≡ m ∷ ms
-    → gather_in nodes w outside g (items_of nodes old) ≡ start → IsTaken nodes w outside g (item_of nodes m) (items_of nodes ms) (Err x) h → IsGathered nodes place (Err x) ms start
-gather_stop nodes w outside g h m ms old start refusals.OutOfMemory place e s t = tt
-gather_stop nodes w outside g h m ms old start (refusals.TooLarge limit value) place e s t = sym s ∙ ap (λ l. gather_in nodes w outside g (items_of nodes l)) e ∙ t
-gather_stop nodes w outside g h m ms old start _ place e s t = absurd t
+pub gather_stop : (nodes : List Node) (w : Words) (outside : ℕ) (g h : Gathered) (m : Marked) (ms old : List Marked) (tail : List Item) (start : Gathering) (x : Refusal) → old ≡ m ∷ ms
+    → gather_in nodes w outside g (items_of nodes old ++ tail) ≡ start → IsTaken nodes w outside g (item_of nodes m) (items_of nodes ms ++ tail) (Err x) h → IsGathered nodes w outside tail (Err x) ms start
+gather_stop nodes w outside g h m ms old tail start x e s t = stops_as x start (gather_in nodes w outside g (item_of nodes m ∷ items_of nodes ms ++ tail)) (sym s ∙ ap (λ l. gather_in nodes w outside g (items_of nodes l ++ tail)) e) t
 
--- no parenthesis closes the use
-pub gather_open : (nodes : List Node) (w : Words) (outside : ℕ) (g : Gathered) (old : List Marked) (start : Gathering) → old ≡ [] → gather_in nodes w outside g (items_of nodes old) ≡ start → start ≡ unclosed
-gather_open nodes w outside g old start e s = sym s ∙ ap (λ l. gather_in nodes w outside g (items_of nodes l)) e
+-- no parenthesis closes the use among these tokens
+pub gather_open : (nodes : List Node) (w : Words) (outside : ℕ) (g : Gathered) (old : List Marked) (tail : List Item) (start : Gathering) → old ≡ [] → gather_in nodes w outside g (items_of nodes old ++ tail) ≡ start → start ≡ gather_in nodes w outside g tail
+gather_open nodes w outside g old tail start e s = sym s ∙ ap (λ l. gather_in nodes w outside g (items_of nodes l ++ tail)) e

@@ -1,5 +1,5 @@
 -- A table of spellings gives the name that the definition gives.
-use Rattle.std.proofs.Common.{◌≡◌, ℕ, zero, suc, ◌+◌, ◌<◌, List, [], ◌∷◌, ◌++◌, length, refl, sym, ap, ◌∙◌, subst, arith, Bool, true, false, Option, Some, None, option_map, Result, Ok, Err}
+use Rattle.std.proofs.Common.{◌≡◌, ℕ, suc, ◌+◌, ◌<◌, List, [], ◌∷◌, ◌++◌, length, refl, sym, ap, ◌∙◌, arith, Bool, true, false, Option, Some, None, Result, Ok, Err}
 use Rattle.std.specs.Prelude.{if◌then◌else◌, ◌==◌, bytes_eq, IfOk, IfErr, OnOk}
 use Rattle.c65_base.specs.declared.names.Name.{Name}
 use Rattle.c65_base.specs.declared.refusal.Refusal.{Refusal}
@@ -8,7 +8,7 @@ use Rattle.c65_base.specs.declared.refusal.Size.TheVariants as sizes
 use Rattle.c65_base.specs.Answers.{large}
 use Rattle.c65_base.specs.Names.{name_of, with_spelling, Lacks, RefusesName}
 use Rattle.c65_base.proofs.NameLaws.{bytes_eq-refl, with_known, with_new, some_is, behind}
-use Rattle.c65_macro.specs.Items.{Outcome, done, faulty, learn, learn_as}
+use Rattle.c65_macro.specs.Items.{done, faulty, learn, learn_as}
 use Rattle.c65_macro.specs.Answered.{Gives}
 
 new_name : (ns : List (List ℕ)) (s : List ℕ) → Lacks ns s → name_of (ns ++ s ∷ []) s ≡ Some (length ns)

@@ -1,17 +1,15 @@
 -- How marked tokens are seen, and what stops an outcome.
-use Rattle.std.proofs.Common.{◌≡◌, ℕ, zero, suc, ◌+◌, List, [], ◌∷◌, ◌++◌, length, map, reverse, drop, refl, sym, ap, ◌∙◌, subst, Bool, true, false, Option, Some, None, option_map, Result, Ok, Err, Bor}
+use Rattle.std.proofs.Common.{◌≡◌, ℕ, zero, suc, ◌+◌, List, [], ◌∷◌, ◌++◌, length, map, reverse, drop, refl, sym, ap, ◌∙◌, subst, Bool, true, false, Option, Some, None, option_map, Result, Bor}
 use Rattle.std.specs.Prelude.{if◌then◌else◌, ◌==◌}
-use Rattle.std.proofs.lemmas.List.{append-nil, map-append, reverse-append}
+use Rattle.std.proofs.lemmas.List.{map-append, reverse-append}
 use Rattle.c65_base.specs.declared.names.Name.{Name}
 use Rattle.c65_base.specs.declared.refusal.Refusal.{Refusal}
 use Rattle.c65_base.specs.declared.refusal.Refusal.TheVariants as refusals
-use Rattle.c65_base.specs.Answers.{at, large}
 use Rattle.c65_lex.specs.declared.token.PpToken.{PpToken}
 use Rattle.c65_macro.specs.Table.{same_name, is_name_kind}
 use Rattle.c65_macro.specs.declared.sets.Node.{Node}
 use Rattle.c65_macro.specs.declared.marked.Marked.{Marked}
-use Rattle.c65_macro.specs.Sets.{Set, either, none}
-use Rattle.c65_macro.specs.Items.{Item, Outcome, unfinished, faulty, done, ◌>>=◌, weight, put_count, count, tokens, hidden, hide_all, with_space}
+use Rattle.c65_macro.specs.Items.{Outcome, unfinished, faulty, done, ◌>>=◌, weight, put_count, tokens, with_space}
 use Rattle.c65_macro.specs.Fill.{argument, argument_of}
 use Rattle.c65_macro.specs.Uses.{is_blank, is_fit}
 use Rattle.c65_macro.specs.Answered.{Stops, Gives}

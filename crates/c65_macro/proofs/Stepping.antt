@@ -1,35 +1,37 @@
 -- Steps of an expansion against its outcome.
-use Rattle.std.proofs.Common.{◌≡◌, ◌≢◌, ℕ, zero, suc, ◌+◌, ◌-◌, List, [], ◌∷◌, ◌++◌, length, map, drop, refl, sym, ap, ◌∙◌, subst, arith, append_assoc, Bool, true, false, Option, Some, None, Result, Ok, Err}
+use Rattle.std.proofs.Common.{◌≡◌, ◌≢◌, ℕ, zero, suc, ◌+◌, ◌-◌, List, [], ◌∷◌, ◌++◌, length, drop, refl, sym, ap, ◌∙◌, subst, arith, append_assoc, Bool, true, false, Option, Some, None, Result, Ok, Err}
 use Rattle.std.specs.Prelude.{if◌then◌else◌, nat_lt, slice_get}
 use Rattle.std.proofs.lemmas.List.{append-nil, length_push}
 use Rattle.c65_base.specs.declared.names.Name.{Name}
 use Rattle.c65_base.specs.declared.refusal.Refusal.{Refusal}
 use Rattle.c65_base.specs.declared.refusal.Refusal.TheVariants as refusals
 use Rattle.c65_base.specs.declared.refusal.Size.TheVariants as sizes
-use Rattle.c65_base.specs.Answers.{at, large}
+use Rattle.c65_base.specs.Answers.{large}
 use Rattle.c65_lex.specs.declared.token.PpToken.{PpToken}
 use Rattle.c65_macro.specs.declared.item.Macro.{Macro}
+use Rattle.c65_macro.specs.declared.sets.Node.{Node}
+use Rattle.c65_macro.specs.declared.state.Begun.{Begun}
 use Rattle.c65_macro.specs.Table.{Table, lookup, is_line_end}
 use Rattle.c65_macro.specs.Items.{Item, Outcome, unfinished, faulty, done, ◌>>=◌, count, put_count}
 use Rattle.c65_macro.specs.Expand.{Expander, pass, keep, put_before, wanted, each, finish, in_front, macro_of, expand}
 use Rattle.c65_macro.specs.Answered.{Stops}
-use Rattle.c65_macro.specs.Machine.{Stage, Frame, Later, with_argument, use_with, use_left, below, climb, outcome, outcome_by, Steps, Leads}
+use Rattle.c65_macro.specs.Machine.{Stage, Frame, Later, with_argument, use_with, use_left, below, climb, outcome, outcome_by, reached, Steps, Leads, Comes}
 use Rattle.c65_macro.proofs.Fuel.{Further, later_same, later_trans, later_bind, later_climb, later_use_with, one_more}
-use Rattle.c65_macro.proofs.Seen.{stops_bind, stops_same, bind_assoc, bind_done}
+use Rattle.c65_macro.proofs.Seen.{stops_bind, stops_same, bind_assoc}
 
-later_is : {A : Type 0} (a b c : Outcome A) → b ≡ c → Later a c → Later a b
+pub later_is : {A : Type 0} (a b c : Outcome A) → b ≡ c → Later a c → Later a b
 later_is {A} a b c e h = let P : Outcome A → Type 0 = λ z. Later a z in subst P (sym e) h
 
-later_from : {A : Type 0} (a b c : Outcome A) → a ≡ b → Later b c → Later a c
+pub later_from : {A : Type 0} (a b c : Outcome A) → a ≡ b → Later b c → Later a c
 later_from {A} a b c e h = let P : Outcome A → Type 0 = λ z. Later z c in subst P (sym e) h
 
-stops_later : {A : Type 0} (e : Refusal) (a b : Outcome A) → Stops e a → Later a b → Stops e b
+pub stops_later : {A : Type 0} (e : Refusal) (a b : Outcome A) → Stops e a → Later a b → Stops e b
 stops_later refusals.OutOfMemory a b s l = tt
 stops_later (refusals.At code pos) a b s l = rw s at l
 stops_later (refusals.TooLarge limit value) a b s l = rw s at l
 stops_later _ a b s l = absurd s
 
-bind_ext : {A B : Type 0} (a : Outcome A) (f g : List (List ℕ) → A → Outcome B) → ((names : List (List ℕ)) (x : A) → f names x ≡ g names x) → (a >>= f) ≡ (a >>= g)
+pub bind_ext : {A B : Type 0} (a : Outcome A) (f g : List (List ℕ) → A → Outcome B) → ((names : List (List ℕ)) (x : A) → f names x ≡ g names x) → (a >>= f) ≡ (a >>= g)
 bind_ext unfinished f g h = refl
 bind_ext (faulty e) f g h = refl
 bind_ext (done names x) f g h = h names x
@@ -171,51 +173,53 @@ all_arguments table go names u m ps h =
     ∙ ap (λ z. z >>= F) (each_none table inner m.body names (drop (length u.full) ps))
     ∙ ap (λ l. finish table go names u.stage.outside u.stage.room u.name u.close u.stage.rest m ps u.raw l) (append-nil u.full)
 
--- the outcome of a list leads on
-pub leads_step : (table : Table) (names known spelled : List (List ℕ)) (line out : List Item) (i : Item) (is : List Item) (room outside : ℕ) (fs gs : List Frame) (s : Stage)
-    → Leads table names line known (record { rest = i ∷ is; out = out; room = room; outside = outside }) fs
-    → ((n : ℕ) → Later (outcome table n spelled s gs) (outcome_by table n out fs (λ go. in_front table go known outside room i is (macro_of table i.token))))
-    → Leads table names line spelled s gs
-leads_step table names known spelled line out i is room outside fs gs s l h n =
+-- outcomes lead on by a step
+pub leads_step : (nodes : List Node) (table : Table) (whole : ℕ → Outcome (List Item)) (known spelled : List (List ℕ)) (out : List Item) (i : Item) (is : List Item) (room outside : ℕ) (fs gs : List Frame) (s : Stage) (b : Option Begun)
+    → Leads nodes table whole known (record { rest = i ∷ is; out = out; room = room; outside = outside }) fs None
+    → ((n : ℕ) → Later (reached nodes table n spelled s gs b) (outcome_by table n out fs (λ go. in_front table go known outside room i is (macro_of table i.token))))
+    → Leads nodes table whole spelled s gs b
+leads_step nodes table whole known spelled out i is room outside fs gs s b l h n =
     let r = l (suc n) in
-    (r.0, later_trans (outcome table n spelled s gs) (outcome_by table n out fs (λ go. in_front table go known outside room i is (macro_of table i.token))) (expand table r.0 names 0 500000 line) (h n) r.1)
+    (r.0, later_trans (reached nodes table n spelled s gs b) (outcome_by table n out fs (λ go. in_front table go known outside room i is (macro_of table i.token))) (whole r.0) (h n) r.1)
 
-pub leads_stop : (table : Table) (names known : List (List ℕ)) (line out : List Item) (i : Item) (is : List Item) (room outside : ℕ) (fs : List Frame) (e : Refusal)
-    → Leads table names line known (record { rest = i ∷ is; out = out; room = room; outside = outside }) fs
+pub leads_stop : (nodes : List Node) (table : Table) (whole : ℕ → Outcome (List Item)) (known : List (List ℕ)) (out : List Item) (i : Item) (is : List Item) (room outside : ℕ) (fs : List Frame) (e : Refusal)
+    → Leads nodes table whole known (record { rest = i ∷ is; out = out; room = room; outside = outside }) fs None
     → ((n : ℕ) → Stops e (outcome_by table n out fs (λ go. in_front table go known outside room i is (macro_of table i.token))))
-    → (k : ℕ) × Stops e (expand table k names 0 500000 line)
-leads_stop table names known line out i is room outside fs e l h =
+    → (k : ℕ) × Stops e (whole k)
+leads_stop nodes table whole known out i is room outside fs e l h =
     let r = l 1 in
-    (r.0, stops_later e (outcome_by table 0 out fs (λ go. in_front table go known outside room i is (macro_of table i.token))) (expand table r.0 names 0 500000 line) (h 0) r.1)
+    (r.0, stops_later e (outcome_by table 0 out fs (λ go. in_front table go known outside room i is (macro_of table i.token))) (whole r.0) (h 0) r.1)
 
-pub leads_climb : (table : Table) (names known spelled : List (List ℕ)) (line out : List Item) (room outside : ℕ) (u : Frame) (fs gs : List Frame) (s : Stage)
-    → Leads table names line known (record { rest = []; out = out; room = room; outside = outside }) (u ∷ fs)
+pub leads_climb : (nodes : List Node) (table : Table) (whole : ℕ → Outcome (List Item)) (known spelled : List (List ℕ)) (out : List Item) (room outside : ℕ) (u : Frame) (fs gs : List Frame) (s : Stage)
+    → Leads nodes table whole known (record { rest = []; out = out; room = room; outside = outside }) (u ∷ fs) None
     → ((n : ℕ) → Later (outcome table n spelled s gs) (outcome_by table n u.stage.out fs (λ go. use_left table go known (with_argument u out) (lookup table u.name.token.spelling))))
-    → Leads table names line spelled s gs
-leads_climb table names known spelled line out room outside u fs gs s l h n =
+    → Leads nodes table whole spelled s gs None
+leads_climb nodes table whole known spelled out room outside u fs gs s l h n =
     let r = l (suc n) in
     let X : List Item → Outcome (List Item) = λ o. use_left table (expand table n) known (with_argument u o) (lookup table u.name.token.spelling) >>= λ names more. climb table (suc n) names fs (u.stage.out ++ more) in
     let e : X (out ++ []) ≡ X out = ap X (append-nil out) in
-    (r.0, later_trans (outcome table n spelled s gs) (X out) (expand table r.0 names 0 500000 line) (h n) (later_from (X out) (X (out ++ [])) (expand table r.0 names 0 500000 line) (sym e) r.1))
+    (r.0, later_trans (outcome table n spelled s gs) (X out) (whole r.0) (h n) (later_from (X out) (X (out ++ [])) (whole r.0) (sym e) r.1))
 
-pub leads_climb_stop : (table : Table) (names known : List (List ℕ)) (line out : List Item) (room outside : ℕ) (u : Frame) (fs : List Frame) (e : Refusal)
-    → Leads table names line known (record { rest = []; out = out; room = room; outside = outside }) (u ∷ fs)
+pub leads_climb_stop : (nodes : List Node) (table : Table) (whole : ℕ → Outcome (List Item)) (known : List (List ℕ)) (out : List Item) (room outside : ℕ) (u : Frame) (fs : List Frame) (e : Refusal)
+    → Leads nodes table whole known (record { rest = []; out = out; room = room; outside = outside }) (u ∷ fs) None
     → ((n : ℕ) → Stops e (outcome_by table n u.stage.out fs (λ go. use_left table go known (with_argument u out) (lookup table u.name.token.spelling))))
-    → (k : ℕ) × Stops e (expand table k names 0 500000 line)
-leads_climb_stop table names known line out room outside u fs e l h =
+    → (k : ℕ) × Stops e (whole k)
+leads_climb_stop nodes table whole known out room outside u fs e l h =
     let r = l 1 in
     let X : List Item → Outcome (List Item) = λ o. use_left table (expand table 0) known (with_argument u o) (lookup table u.name.token.spelling) >>= λ names more. climb table 1 names fs (u.stage.out ++ more) in
-    (r.0, stops_later e (X (out ++ [])) (expand table r.0 names 0 500000 line) (stops_same e (X (out ++ [])) (X out) (ap X (append-nil out)) (h 0)) r.1)
-
--- nothing is left
-pub leads_end : (table : Table) (names known : List (List ℕ)) (line out : List Item) (room outside : ℕ)
-    → Leads table names line known (record { rest = []; out = out; room = room; outside = outside }) []
-    → (k : ℕ) × (expand table k names 0 500000 line ≡ done known out)
-leads_end table names known line out room outside l =
-    let r = l 1 in
-    let x : expand table r.0 names 0 500000 line ≡ done known (out ++ []) = r.1 in
-    (r.0, x ∙ ap (λ o. done known o) (append-nil out))
+    (r.0, stops_later e (X (out ++ [])) (whole r.0) (stops_same e (X (out ++ [])) (X out) (ap X (append-nil out)) (h 0)) r.1)
 
 -- the beginning
-pub leads_start : (table : Table) (names : List (List ℕ)) (line : List Item) → Leads table names line names (record { rest = line; out = []; room = 500000; outside = 0 }) []
-leads_start table names line n = (n, later_from (expand table n names 0 500000 line >>= λ names more. done names more) (expand table n names 0 500000 line) (expand table n names 0 500000 line) (bind_done (expand table n names 0 500000 line)) (later_same (expand table n names 0 500000 line)))
+pub leads_start : (nodes : List Node) (table : Table) (names : List (List ℕ)) (s : Stage) (fs : List Frame) → Leads nodes table (λ n. outcome table n names s fs) names s fs None
+leads_start nodes table names s fs n = (n, later_same (outcome table n names s fs))
+
+-- what leads to a place from which it goes on leads on
+pub leads_on : (nodes : List Node) (table : Table) (whole : ℕ → Outcome (List Item)) (known : List (List ℕ)) (s : Stage) (fs : List Frame) (r : Result (Option Begun) Refusal) (spelled : List (List ℕ)) (t : Stage) (gs : List Frame)
+    → Leads nodes table whole known s fs None → Comes nodes table (λ n. outcome table n known s fs) r spelled t gs → Comes nodes table whole r spelled t gs
+leads_on nodes table whole known s fs (Ok b) spelled t gs l h = λ n.
+    let a = h n in
+    let c = l a.0 in
+    (c.0, later_trans (reached nodes table n spelled t gs b) (outcome table a.0 known s fs) (whole c.0) a.1 c.1)
+leads_on nodes table whole known s fs (Err e) spelled t gs l h =
+    let c = l h.0 in
+    (c.0, stops_later e (outcome table h.0 known s fs) (whole c.0) h.1 c.1)

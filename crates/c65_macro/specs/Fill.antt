@@ -1,9 +1,9 @@
 -- A replacement list with its arguments, # and ## (C90 6.8.3.1 to 6.8.3.3).
-use Rattle.std.specs.Prelude.{ℕ, List, [], ◌∷◌, ◌++◌, Bool, true, false, ◌==◌, ◌&&◌, ◌||◌, not, Option, Some, None, if◌then◌else◌}
+use Rattle.std.specs.Prelude.{ℕ, List, [], ◌∷◌, ◌++◌, Bool, true, false, ◌==◌, ◌||◌, Option, Some, None, if◌then◌else◌}
 use Rattle.c65_base.specs.declared.names.Name.{Name}
 use Rattle.c65_base.specs.declared.refusal.Pos.{Pos}
 use Rattle.c65_base.specs.declared.code.Code.TheVariants as codes
-use Rattle.c65_base.specs.Answers.{Fault, at}
+use Rattle.c65_base.specs.Answers.{at}
 use Rattle.c65_lex.specs.declared.token.PpKind.{PpKind}
 use Rattle.c65_lex.specs.declared.token.PpKind.TheVariants as kinds
 use Rattle.c65_lex.specs.declared.token.PpToken.{PpToken}

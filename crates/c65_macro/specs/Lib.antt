@@ -10,3 +10,4 @@ pub mod Answered
 pub mod Views
 pub mod Machine
 pub mod Predefined
+pub mod Feeding

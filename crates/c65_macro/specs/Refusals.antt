@@ -27,6 +27,18 @@ StopsExpansion (refusals.At code pos) = IsUseFault code
 StopsExpansion (refusals.TooLarge limit value) = IsExceeded limit value
 StopsExpansion _ = ⊥
 
+-- why an expansion may be refused before its list is at its end
+abbrev pub IsInnerFault : Code → Type 0
+IsInnerFault codes.MacroArguments = Unit {0}
+IsInnerFault codes.BadPaste = Unit {0}
+IsInnerFault _ = ⊥
+
+abbrev pub StopsFeeding : Refusal → Type 0
+StopsFeeding refusals.OutOfMemory = Unit {0}
+StopsFeeding (refusals.At code pos) = IsInnerFault code
+StopsFeeding (refusals.TooLarge limit value) = IsExceeded limit value
+StopsFeeding _ = ⊥
+
 -- no memory, or no room for a spelling
 abbrev pub LacksRoom : Refusal → Type 0
 LacksRoom refusals.OutOfMemory = Unit {0}

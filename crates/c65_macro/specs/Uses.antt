@@ -56,6 +56,11 @@ abbrev pub behind : Words → List Item → Option (List Item)
 behind w [] = None
 behind w (i ∷ is) = elim (role w i.token) [ LineEnd ↦ behind w is | Opening ↦ Some is | Closing ↦ None | Comma ↦ None | Other ↦ None ]
 
+-- whether nothing but line ends stands there
+abbrev pub only_ends : List Item → Bool
+only_ends [] = true
+only_ends (i ∷ is) = is_line_end i.token && only_ends is
+
 -- the use whose name stands just before: line ends before its parenthesis are dropped
 abbrev pub use_at : Words → ℕ → List Item → Gathering
 use_at w outside is = elim (behind w is) [ None ↦ no_use | Some rest ↦ gather w outside false 0 [] [] 0 rest ]

@@ -1,6 +1,6 @@
 -- The tokens, arguments and bodies that calls work on, as the definition sees them: by the nodes of
 -- the hide sets.
-use Rattle.std.specs.Prelude.{ℕ, List, [], map, Option, Some, None}
+use Rattle.std.specs.Prelude.{ℕ, List, [], map, Option}
 use Rattle.c65_base.specs.declared.names.Name.{Name}
 use Rattle.c65_lex.specs.declared.token.PpToken.{PpToken}
 use Rattle.c65_macro.specs.declared.sets.Node.{Node}

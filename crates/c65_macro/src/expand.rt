@@ -1,5 +1,5 @@
-// The expansion of a list of tokens (C90 6.8.3).
-ghost use Rattle.std.specs.Prelude.{◌≡◌, List, Some, None, IfErr, IfOk, option_copied, ◌||◌};
+// The steps of an expansion (C90 6.8.3).
+ghost use Rattle.std.specs.Prelude.{◌≡◌, List, [], Some, None, IfErr, IfOk, option_copied, ◌||◌};
 ghost use Rattle.c65_base.specs.declared.names.Name.{Name};
 ghost use Rattle.c65_macro.specs.Refusals.{StopsExpansion};
 ghost use Rattle.c65_macro.specs.declared.sets.Node.{Node};
@@ -7,15 +7,16 @@ ghost use Rattle.c65_macro.specs.Sets.{Extends, set_of, with_name};
 ghost use Rattle.c65_macro.specs.Answered.{Gives};
 ghost use Rattle.c65_macro.specs.Table.{lookup, same_name};
 ghost use Rattle.c65_macro.specs.Expand;
+ghost use Rattle.c65_macro.specs.Uses.{closed};
 ghost use Rattle.c65_macro.specs.Views.{item_of, items_of, lists_of};
-ghost use Rattle.c65_macro.specs.Machine.{Steps, stage_of, frame_of, frames_of, use_with, use_left, with_argument};
+ghost use Rattle.c65_macro.specs.Machine.{Steps, Goes, GoesInto, Comes, before, begun_left, begun_with, outcome, reached, rest_in, stage_of, frame_of, frames_of, use_with, use_left, with_argument};
 
 use crate::fill::{Used, replacement, single};
-use crate::gather::Arguments;
+use crate::gather::{Arguments, Gathered, Inside};
 use crate::item::{Macro, Params};
 use crate::marked::{Argument, Marked, plus};
 use crate::sets::{Hide, Sets};
-use crate::state::{Level, Pending, State, marked, unmarked};
+use crate::state::{Begun, Level, Pending, State, Went, went_into, went_on};
 use crate::table::Macros;
 use crate::uses::{is_fit, is_replaced};
 use c65_base::{Code, Name, Names, Refusal};
@@ -35,17 +36,17 @@ impl Macros {
     }
 
     /// Does the next token: it stays or is replaced, or its use begins.
-    fn step(&self, state: &mut State, item: Marked, names: &mut Names) -> Result<(), Refusal>
+    fn step(&self, state: &mut State, item: Marked, names: &mut Names) -> Result<Went, Refusal>
         ensures refused { IfErr result StopsExpansion }
         ensures grows { Extends names.old names.new }
         ensures kept { Extends state.old.sets state.new.sets }
-        ensures value { (nodes : List Node) → Extends state.new.sets nodes → Steps self.now (items_of nodes state.old.level.out.items) (frames_of nodes state.old.pending.items) (λ go. Expand.in_front self.now go names.old state.old.level.outside state.old.level.room (item_of nodes item) (items_of nodes state.old.level.rest) (Expand.macro_of self.now item.token)) result names.new (stage_of nodes state.new.level) (frames_of nodes state.new.pending.items) }
+        ensures value { (nodes : List Node) (more : List PpToken) → Extends state.new.sets nodes → Goes nodes self.now names.old (before (item_of nodes item) (stage_of nodes more state.old.level)) (frames_of nodes more state.old.pending.items) (λ go. Expand.in_front self.now go names.old state.old.level.outside state.old.level.room (item_of nodes item) (rest_in nodes more state.old.level) (Expand.macro_of self.now item.token)) result names.new (stage_of nodes more state.new.level) (frames_of nodes more state.new.pending.items) }
     {
         let Some(found) = self.macro_of(&item.token) else {
-            return state.level.keep(item);
+            return went_on(state.level.keep(item));
         };
         if state.sets.has(item.hide, item.token.spelling)? {
-            return state.level.keep(item);
+            return went_on(state.level.keep(item));
         }
         self.replace(state, item, found, names)
     }
@@ -65,19 +66,19 @@ impl Macros {
         item: Marked,
         found: &Macro,
         names: &mut Names,
-    ) -> Result<(), Refusal>
+    ) -> Result<Went, Refusal>
         requires { lookup self.now item.token.spelling ≡ Some found.now }
         ensures refused { IfErr result StopsExpansion }
         ensures grows { Extends names.old names.new }
         ensures kept { Extends state.old.sets state.new.sets }
-        ensures value { (nodes : List Node) → Extends state.new.sets nodes → Steps self.now (items_of nodes state.old.level.out.items) (frames_of nodes state.old.pending.items) (λ go. Expand.replace self.now go names.old state.old.level.outside state.old.level.room (item_of nodes item) (items_of nodes state.old.level.rest) found.now) result names.new (stage_of nodes state.new.level) (frames_of nodes state.new.pending.items) }
+        ensures value { (nodes : List Node) (more : List PpToken) → Extends state.new.sets nodes → Goes nodes self.now names.old (before (item_of nodes item) (stage_of nodes more state.old.level)) (frames_of nodes more state.old.pending.items) (λ go. Expand.replace self.now go names.old state.old.level.outside state.old.level.room (item_of nodes item) (rest_in nodes more state.old.level) found.now) result names.new (stage_of nodes more state.new.level) (frames_of nodes more state.new.pending.items) }
     {
         if self.is_place(found.name) {
-            return self.replace_place(state, item, found.name, names);
+            return went_on(self.replace_place(state, item, found.name, names));
         }
         match &found.params {
             Some(params) => self.apply(state, item, found, params, names),
-            None => self.replace_object(state, item, found, names),
+            None => went_on(self.replace_object(state, item, found, names)),
         }
     }
 
@@ -116,7 +117,7 @@ impl Macros {
         ensures refused { IfErr result StopsExpansion }
         ensures grows { Extends names.old names.new }
         ensures kept { Extends state.old.sets state.new.sets }
-        ensures value { (nodes : List Node) → Extends state.new.sets nodes → Steps self.now (items_of nodes state.old.level.out.items) (frames_of nodes state.old.pending.items) (λ go. Expand.replace_place self.now go names.old state.old.level.outside state.old.level.room (item_of nodes item) (items_of nodes state.old.level.rest) name) result names.new (stage_of nodes state.new.level) (frames_of nodes state.new.pending.items) }
+        ensures value { (nodes : List Node) (more : List PpToken) → Extends state.new.sets nodes → Steps self.now (items_of nodes state.old.level.out.items) (frames_of nodes more state.old.pending.items) (λ go. Expand.replace_place self.now go names.old state.old.level.outside state.old.level.room (item_of nodes item) (rest_in nodes more state.old.level) name) result names.new (stage_of nodes more state.new.level) (frames_of nodes more state.new.pending.items) }
     {
         let hide = state.sets.with(name, item.hide)?;
         let token = self.place_token(item, hide, name, names)?;
@@ -136,7 +137,7 @@ impl Macros {
         ensures refused { IfErr result StopsExpansion }
         ensures grows { Extends names.old names.new }
         ensures kept { Extends state.old.sets state.new.sets }
-        ensures value { (nodes : List Node) → Extends state.new.sets nodes → Steps self.now (items_of nodes state.old.level.out.items) (frames_of nodes state.old.pending.items) (λ go. Expand.replace_with self.now go names.old state.old.level.outside state.old.level.room (item_of nodes item) (items_of nodes state.old.level.rest) found.now None) result names.new (stage_of nodes state.new.level) (frames_of nodes state.new.pending.items) }
+        ensures value { (nodes : List Node) (more : List PpToken) → Extends state.new.sets nodes → Steps self.now (items_of nodes state.old.level.out.items) (frames_of nodes more state.old.pending.items) (λ go. Expand.replace_with self.now go names.old state.old.level.outside state.old.level.room (item_of nodes item) (rest_in nodes more state.old.level) found.now None) result names.new (stage_of nodes more state.new.level) (frames_of nodes more state.new.pending.items) }
     {
         let alloc = self.alloc();
         let hide = state.sets.with(found.name, item.hide)?;
@@ -167,38 +168,98 @@ impl Macros {
         found: &Macro,
         params: &Params,
         names: &mut Names,
-    ) -> Result<(), Refusal>
+    ) -> Result<Went, Refusal>
         requires known { lookup self.now item.token.spelling ≡ Some found.now }
         requires has { found.now.params ≡ Some params.now }
         ensures refused { IfErr result StopsExpansion }
         ensures grows { Extends names.old names.new }
         ensures kept { Extends state.old.sets state.new.sets }
-        ensures value { (nodes : List Node) → Extends state.new.sets nodes → Steps self.now (items_of nodes state.old.level.out.items) (frames_of nodes state.old.pending.items) (λ go. Expand.replace_with self.now go names.old state.old.level.outside state.old.level.room (item_of nodes item) (items_of nodes state.old.level.rest) found.now (Some params.now)) result names.new (stage_of nodes state.new.level) (frames_of nodes state.new.pending.items) }
+        ensures value { (nodes : List Node) (more : List PpToken) → Extends state.new.sets nodes → Goes nodes self.now names.old (before (item_of nodes item) (stage_of nodes more state.old.level)) (frames_of nodes more state.old.pending.items) (λ go. Expand.replace_with self.now go names.old state.old.level.outside state.old.level.room (item_of nodes item) (rest_in nodes more state.old.level) found.now (Some params.now)) result names.new (stage_of nodes more state.new.level) (frames_of nodes more state.new.pending.items) }
     {
-        let alloc = self.alloc();
         let marks = self.words();
         if !state.level.rest.is_use(marks) {
-            return state.level.keep(item);
+            if state.level.is_open && state.level.rest.has_ends_alone() {
+                state.level.rest.push(item)?;
+                return Ok(Went::Back);
+            }
+            return went_on(state.level.keep(item));
         }
         state.level.rest.enter(marks);
+        let begun = Begun {
+            name: item,
+            gathered: Gathered::new(self.alloc()),
+        };
+        went_into(self.gather(state, begun, found, params, names))
+    }
+
+    /// Goes on with a use: gathers the arguments that are there, and begins to replace it where all are.
+    fn gather(
+        &self,
+        state: &mut State,
+        begun: Begun,
+        found: &Macro,
+        params: &Params,
+        names: &mut Names,
+    ) -> Result<Option<Begun>, Refusal>
+        requires known { lookup self.now begun.name.token.spelling ≡ Some found.now }
+        requires has { found.now.params ≡ Some params.now }
+        ensures refused { IfErr result StopsExpansion }
+        ensures grows { Extends names.old names.new }
+        ensures kept { Extends state.old.sets state.new.sets }
+        ensures value { (nodes : List Node) (more : List PpToken) → Extends state.new.sets nodes → GoesInto nodes self.now (items_of nodes state.old.level.out.items) (frames_of nodes more state.old.pending.items) (λ go. begun_with nodes self.now go names.old (stage_of nodes more state.old.level) begun found.now (Some params.now)) result names.new (stage_of nodes more state.new.level) (frames_of nodes more state.new.pending.items) }
+    {
+        let Begun { name, gathered } = begun;
         let outside = state.level.outside;
-        let arguments = state
+        let inside = state
             .level
             .rest
-            .gather(alloc, marks, outside, item.token.pos)?;
+            .gather(self.alloc(), self.words(), outside, gathered)?;
+        match inside {
+            Inside::Closed(arguments) => {
+                match self.begin(state, name, arguments, found, params, names) {
+                    Ok(()) => Ok(None),
+                    Err(refusal) => Err(refusal),
+                }
+            }
+            Inside::Unclosed(gathered) if state.level.is_open => Ok(Some(Begun { name, gathered })),
+            Inside::Unclosed(_) => Err(Refusal::At {
+                code: Code::OpenArguments,
+                pos: name.token.pos,
+            }),
+        }
+    }
+
+    /// Begins to replace a use with these arguments.
+    fn begin(
+        &self,
+        state: &mut State,
+        name: Marked,
+        arguments: Arguments,
+        found: &Macro,
+        params: &Params,
+        names: &mut Names,
+    ) -> Result<(), Refusal>
+        requires known { lookup self.now name.token.spelling ≡ Some found.now }
+        requires has { found.now.params ≡ Some params.now }
+        ensures refused { IfErr result StopsExpansion }
+        ensures grows { Extends names.old names.new }
+        ensures kept { Extends state.old.sets state.new.sets }
+        ensures value { (nodes : List Node) (more : List PpToken) → Extends state.new.sets nodes → Steps self.now (items_of nodes state.old.level.out.items) (frames_of nodes more state.old.pending.items) (λ go. Expand.replace_use self.now go names.old state.old.level.outside state.old.level.room (item_of nodes name) [] found.now params.now (closed (lists_of nodes arguments.lists.items) arguments.size (item_of nodes arguments.close) (rest_in nodes more state.old.level))) result names.new (stage_of nodes more state.new.level) (frames_of nodes more state.new.pending.items) }
+    {
+        let alloc = self.alloc();
         if !is_fit(params.as_slice(), &arguments.lists) {
             return Err(Refusal::At {
                 code: Code::MacroArguments,
-                pos: item.token.pos,
+                pos: name.token.pos,
             });
         }
         let Arguments { lists, size, close } = arguments;
-        let gathered = plus(outside, size)?;
+        let gathered = plus(state.level.outside, size)?;
         let inside = plus(gathered, state.level.rest.put())?;
         let level = mem::replace(&mut state.level, Level::new(alloc, 0));
         let pending = Pending {
             level,
-            name: item,
+            name,
             close,
             raw: lists,
             full: Vec::new(alloc),
@@ -237,7 +298,7 @@ impl Macros {
         ensures refused { IfErr result StopsExpansion }
         ensures grows { Extends names.old names.new }
         ensures kept { Extends state.old.sets state.new.sets }
-        ensures value { (nodes : List Node) → Extends state.new.sets nodes → Steps self.now (items_of nodes pending.level.out.items) (frames_of nodes state.old.pending.items) (λ go. use_with self.now go names.old (frame_of nodes pending) found.now (Some params.now)) result names.new (stage_of nodes state.new.level) (frames_of nodes state.new.pending.items) }
+        ensures value { (nodes : List Node) (more : List PpToken) → Extends state.new.sets nodes → Steps self.now (items_of nodes pending.level.out.items) (frames_of nodes more state.old.pending.items) (λ go. use_with self.now go names.old (frame_of nodes more pending) found.now (Some params.now)) result names.new (stage_of nodes more state.new.level) (frames_of nodes more state.new.pending.items) }
     {
         let done = pending.full.len();
         let Some(param) = params.as_slice().get(done) else {
@@ -265,7 +326,7 @@ impl Macros {
         ensures refused { IfErr result StopsExpansion }
         ensures grows { Extends names.old names.new }
         ensures kept { Extends state.old.sets state.new.sets }
-        ensures value { (nodes : List Node) (params : List Name) → found.now.params ≡ Some params → Extends state.new.sets nodes → Steps self.now (items_of nodes pending.level.out.items) (frames_of nodes state.old.pending.items) (λ go. Expand.finish self.now go names.old pending.level.outside pending.level.room (item_of nodes pending.name) (item_of nodes pending.close) (items_of nodes pending.level.rest) found.now params (lists_of nodes pending.raw.items) (lists_of nodes pending.full.items)) result names.new (stage_of nodes state.new.level) (frames_of nodes state.new.pending.items) }
+        ensures value { (nodes : List Node) (more : List PpToken) (params : List Name) → found.now.params ≡ Some params → Extends state.new.sets nodes → Steps self.now (items_of nodes pending.level.out.items) (frames_of nodes more state.old.pending.items) (λ go. Expand.finish self.now go names.old pending.level.outside pending.level.room (item_of nodes pending.name) (item_of nodes pending.close) (rest_in nodes more pending.level) found.now params (lists_of nodes pending.raw.items) (lists_of nodes pending.full.items)) result names.new (stage_of nodes more state.new.level) (frames_of nodes more state.new.pending.items) }
     {
         let Pending {
             level,
@@ -303,7 +364,7 @@ impl Macros {
         ensures refused { IfErr result StopsExpansion }
         ensures grows { Extends names.old names.new }
         ensures kept { Extends state.old.sets state.new.sets }
-        ensures value { (nodes : List Node) → Extends state.new.sets nodes → Steps self.now (items_of nodes pending.level.out.items) (frames_of nodes state.old.pending.items) (λ go. use_left self.now go names.old (with_argument (frame_of nodes pending) (items_of nodes state.old.level.out.items)) (lookup self.now pending.name.token.spelling)) result names.new (stage_of nodes state.new.level) (frames_of nodes state.new.pending.items) }
+        ensures value { (nodes : List Node) (more : List PpToken) → Extends state.new.sets nodes → Steps self.now (items_of nodes pending.level.out.items) (frames_of nodes more state.old.pending.items) (λ go. use_left self.now go names.old (with_argument (frame_of nodes more pending) (items_of nodes state.old.level.out.items)) (lookup self.now pending.name.token.spelling)) result names.new (stage_of nodes more state.new.level) (frames_of nodes more state.new.pending.items) }
     {
         let mut pending = pending;
         let level = mem::replace(&mut state.level, Level::new(self.alloc(), 0));
@@ -318,32 +379,72 @@ impl Macros {
         }
     }
 
-    /// The expansion of a list of tokens (C90 6.8.3).
-    pub fn expand(&self, line: &[PpToken], names: &mut Names) -> Result<Vec<PpToken>, Refusal>
+    /// Does the steps that do not depend on tokens to come. Told is the use into which they came, if they did.
+    fn run(&self, state: &mut State, names: &mut Names) -> Result<Option<Begun>, Refusal>
         ensures refused { IfErr result StopsExpansion }
         ensures grows { Extends names.old names.new }
-        ensures expands { IfOk result (λ out. Expand.Expands self.now names.old line.now out.items names.new) }
-        ensures faults { IfErr result (λ e. Expand.Refuses e self.now names.old line.now) }
+        ensures kept { Extends state.old.sets state.new.sets }
+        ensures value { (nodes : List Node) (more : List PpToken) → Extends state.new.sets nodes → Comes nodes self.now (λ n. outcome self.now n names.old (stage_of nodes more state.old.level) (frames_of nodes more state.old.pending.items)) result names.new (stage_of nodes more state.new.level) (frames_of nodes more state.new.pending.items) }
     {
-        let alloc = self.alloc();
-        let mut level = Level::new(alloc, 0);
-        level.rest.push_all(marked(alloc, line)?)?;
-        let mut state = State {
-            level,
-            pending: Vec::new(alloc),
-            sets: Sets::new(alloc),
-        };
         let mut steps = u64::MAX;
         while steps > 0 {
             steps -= 1;
             match state.level.rest.pop() {
-                Some(item) => self.step(&mut state, item, names)?,
+                Some(item) => match self.step(state, item, names)? {
+                    Went::On => {}
+                    Went::Back => return Ok(None),
+                    Went::Into(begun) => return Ok(Some(begun)),
+                },
+                None if state.level.is_open => return Ok(None),
                 None => match state.pending.pop() {
-                    Some(pending) => self.resume(&mut state, pending, names)?,
-                    None => return Ok(unmarked(alloc, &state.level.out)?),
+                    Some(pending) => self.resume(state, pending, names)?,
+                    None => return Ok(None),
                 },
             }
         }
         Err(Refusal::OutOfMemory)
+    }
+
+    /// Takes up a use that has begun. Its macro is still in the table, as in `resume`.
+    fn take_up(
+        &self,
+        state: &mut State,
+        begun: Begun,
+        names: &mut Names,
+    ) -> Result<Option<Begun>, Refusal>
+        ensures refused { IfErr result StopsExpansion }
+        ensures grows { Extends names.old names.new }
+        ensures kept { Extends state.old.sets state.new.sets }
+        ensures value { (nodes : List Node) (more : List PpToken) → Extends state.new.sets nodes → GoesInto nodes self.now (items_of nodes state.old.level.out.items) (frames_of nodes more state.old.pending.items) (λ go. begun_left nodes self.now go names.old (stage_of nodes more state.old.level) begun (lookup self.now begun.name.token.spelling)) result names.new (stage_of nodes more state.new.level) (frames_of nodes more state.new.pending.items) }
+    {
+        let Some(found) = self.get(begun.name.token.spelling) else {
+            return Err(Refusal::OutOfMemory);
+        };
+        match &found.params {
+            Some(params) => self.gather(state, begun, found, params, names),
+            None => Err(Refusal::OutOfMemory),
+        }
+    }
+
+    /// Goes on as far as it does not depend on tokens to come, from within a use where one has begun.
+    pub(crate) fn go_on(
+        &self,
+        state: &mut State,
+        begun: Option<Begun>,
+        names: &mut Names,
+    ) -> Result<Option<Begun>, Refusal>
+        ensures refused { IfErr result StopsExpansion }
+        ensures grows { Extends names.old names.new }
+        ensures kept { Extends state.old.sets state.new.sets }
+        ensures value { (nodes : List Node) (more : List PpToken) → Extends state.new.sets nodes → Comes nodes self.now (λ n. reached nodes self.now n names.old (stage_of nodes more state.old.level) (frames_of nodes more state.old.pending.items) begun) result names.new (stage_of nodes more state.new.level) (frames_of nodes more state.new.pending.items) }
+    {
+        let Some(begun) = begun else {
+            return self.run(state, names);
+        };
+        match self.take_up(state, begun, names) {
+            Ok(None) => self.run(state, names),
+            Ok(Some(begun)) => Ok(Some(begun)),
+            Err(refusal) => Err(refusal),
+        }
     }
 }

@@ -6,13 +6,13 @@ ghost use Rattle.c65_macro.specs.declared.item.Words.{Words};
 ghost use Rattle.c65_macro.specs.Items.{Item, put_count};
 ghost use Rattle.c65_macro.specs.Uses;
 ghost use Rattle.c65_macro.specs.Views.{item_of, items_of};
-ghost use Rattle.c65_macro.specs.Machine.{IsGathered, IsTaken, IsAdded, IsSeparated};
+ghost use Rattle.c65_macro.specs.Machine.{IsGathered, IsTaken, IsAdded, IsSeparated, gather_in};
 
 use crate::item::Words;
 use crate::marked::{Argument, Marked, plus};
 use crate::rest::Rest;
 use crate::uses::{Role, role_of};
-use c65_base::{Code, Pos, Refusal, Size};
+use c65_base::{Refusal, Size};
 use std::alloc::{AllocError, Global};
 use std::mem;
 
@@ -51,7 +51,27 @@ pub struct Gathered {
     gap: bool,
 }
 
+/// What the tokens behind an opening parenthesis come to: a whole use, or one whose closing parenthesis is not there.
+#[derive(Drop)]
+pub enum Inside {
+    Closed(Arguments),
+    Unclosed(Gathered),
+}
+
 impl Gathered {
+    /// Nothing behind the opening parenthesis.
+    pub fn new(alloc: Global) -> Gathered
+        ensures { (result.lists.items ≡ []) × (result.list.items ≡ []) × (result.size ≡ 0) × (result.depth ≡ 0) × (result.gap ≡ false) }
+    {
+        Gathered {
+            lists: Vec::new(alloc),
+            list: Vec::new(alloc),
+            size: 0,
+            depth: 0,
+            gap: false,
+        }
+    }
+
     /// One more token of the argument, with so many tokens waiting outside of the use and behind it.
     fn add(&mut self, item: Marked, depth: u64, outside: u64, put: u64) -> Result<bool, Refusal>
         ensures refused { IfErr result StopsExpansion }
@@ -136,34 +156,25 @@ impl Gathered {
 }
 
 impl Rest {
-    /// Takes the arguments of a use behind its opening parenthesis. So many tokens wait outside of the list, and the
-    /// place is that of the macro's name.
+    /// Takes what follows of a use some of whose arguments are gathered. So many tokens wait outside of the list, and
+    /// those that may come behind it were put there by no replacement.
     pub fn gather(
         &mut self,
         alloc: Global,
         words: Words,
         outside: u64,
-        pos: Pos,
-    ) -> Result<Arguments, Refusal>
+        gathered: Gathered,
+    ) -> Result<Inside, Refusal>
         ensures refused { IfErr result StopsExpansion }
-        ensures value { (nodes : List Node) → IsGathered nodes pos result self.new (Uses.gather words outside false 0 [] [] 0 (items_of nodes self.old)) }
+        ensures value { (nodes : List Node) (tail : List Item) → put_count tail ≡ 0 → IsGathered nodes words outside tail result self.new (gather_in nodes words outside gathered (items_of nodes self.old ++ tail)) }
     {
-        let mut gathered = Gathered {
-            lists: Vec::new(alloc),
-            list: Vec::new(alloc),
-            size: 0,
-            depth: 0,
-            gap: false,
-        };
+        let mut gathered = gathered;
         while let Some(item) = self.pop() {
             let role = role_of(words, &item.token);
             if gathered.take(alloc, item, role, outside, self.put())? {
-                return Ok(gathered.close(item)?);
+                return Ok(Inside::Closed(gathered.close(item)?));
             }
         }
-        Err(Refusal::At {
-            code: Code::OpenArguments,
-            pos,
-        })
+        Ok(Inside::Unclosed(gathered))
     }
 }

@@ -3,6 +3,7 @@
 
 mod definition;
 mod expand;
+mod feeding;
 mod fill;
 mod gather;
 mod given;
@@ -16,5 +17,6 @@ mod table;
 mod text;
 mod uses;
 
+pub use feeding::Expander;
 pub use item::{Macro, Params, Words};
 pub use table::Macros;

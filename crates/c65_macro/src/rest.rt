@@ -1,13 +1,13 @@
 // What is left of a list that is being expanded.
-ghost use Rattle.std.specs.Prelude.{◌≡◌, ◌∷◌, ◌++◌, ◌<◌, List, [], Some, length, is_some, OnOk, IfSome, IfNone};
+ghost use Rattle.std.specs.Prelude.{◌≡◌, ◌∷◌, ◌++◌, ◌<◌, List, [], Some, length, is_some, IsTrue, IfOk, OnOk, IfSome, IfNone};
 ghost use Rattle.std.specs.Option.{option_to_list};
 ghost use Rattle.c65_macro.specs.declared.sets.Node.{Node};
 ghost use Rattle.c65_macro.specs.Items.{Item};
-ghost use Rattle.c65_macro.specs.Uses.{behind};
+ghost use Rattle.c65_macro.specs.Uses.{behind, only_ends};
 ghost use Rattle.c65_macro.specs.Views.{items_of, put_of};
 
 use crate::item::Words;
-use crate::marked::{Marked, plus, weight};
+use crate::marked::{Marked, is_line_end, plus, weight};
 use crate::uses::{Role, role_of};
 use std::alloc::{AllocError, Global};
 use std::marker::Model;
@@ -47,6 +47,12 @@ impl Rest {
         ensures { result ≡ put_of self.now }
     {
         self.put
+    }
+
+    pub fn is_empty(&self) -> bool
+        ensures { IsTrue result → self.now ≡ [] }
+    {
+        self.stack.is_empty()
     }
 
     /// Takes the next token.
@@ -97,6 +103,32 @@ impl Rest {
             }
         }
         false
+    }
+
+    /// Whether nothing but line ends is left.
+    pub fn has_ends_alone(&self) -> bool
+        ensures { (nodes : List Node) → only_ends (items_of nodes self.now) ≡ result }
+    {
+        let mut rest = self.stack.as_slice();
+        while let Some((item, others)) = rest.split_last() {
+            if !is_line_end(&item.token) {
+                return false;
+            }
+            rest = others;
+        }
+        true
+    }
+
+    /// All tokens, from the next one on.
+    pub fn into_items(self, alloc: Global) -> Result<Vec<Marked>, AllocError>
+        ensures { IfOk result (λ v. v.items ≡ self) }
+    {
+        let mut rest = self;
+        let mut items = Vec::new(alloc);
+        while let Some(item) = rest.pop() {
+            items.push(item)?;
+        }
+        Ok(items)
     }
 
     /// Goes over line ends and the opening parenthesis, where a use stands there.

@@ -1,15 +1,15 @@
 // An expansion as far as it has come: a stack of lists that are being expanded, each but the first an argument of a
 // use in the list below.
-ghost use Rattle.std.specs.Prelude.{◌≡◌, ℕ, List, [], IfErr, IfOk};
+ghost use Rattle.std.specs.Prelude.{◌≡◌, ◌++◌, ℕ, List, [], false, IfErr, IfOk};
 ghost use Rattle.c65_macro.specs.Refusals.{StopsExpansion};
 ghost use Rattle.c65_macro.specs.declared.sets.Node.{Node};
 ghost use Rattle.c65_macro.specs.Table.{Table};
 ghost use Rattle.c65_macro.specs.Items;
 ghost use Rattle.c65_macro.specs.Expand;
 ghost use Rattle.c65_macro.specs.Views.{item_of, items_of, tokens_of};
-ghost use Rattle.c65_macro.specs.Machine.{Frame, Steps, stage_of};
+ghost use Rattle.c65_macro.specs.Machine.{Frame, Steps, rest_in, stage_of, went_on, went_into};
 
-use crate::gather::{LIMIT, too_many_tokens};
+use crate::gather::{Gathered, LIMIT, too_many_tokens};
 use crate::marked::{Argument, Marked, is_line_end, plus, weight};
 use crate::rest::Rest;
 use crate::sets::Sets;
@@ -17,14 +17,33 @@ use c65_base::Refusal;
 use c65_lex::PpToken;
 use std::alloc::{AllocError, Global};
 
-/// A list that is being expanded: what is left, what came out, how many tokens more may, and how many wait outside of
-/// it.
+/// A list that is being expanded: what is left, what came out, how many tokens more may, how many wait outside of it,
+/// and whether more may come behind what is left.
 #[derive(Drop)]
 pub struct Level {
     pub rest: Rest,
     pub out: Vec<Marked>,
     pub room: u64,
     pub outside: u64,
+    pub is_open: bool,
+}
+
+/// A use whose closing parenthesis has not come yet: the macro's name, and what was gathered.
+#[derive(Drop)]
+pub struct Begun {
+    pub name: Marked,
+    pub gathered: Gathered,
+}
+
+/// What the next token came to.
+#[derive(Drop)]
+pub enum Went {
+    /// The expansion goes on.
+    On,
+    /// It is before the others again: whether a use begins there is told by tokens that are to come.
+    Back,
+    /// A use has begun that ends among tokens that are to come.
+    Into(Begun),
 }
 
 /// A use whose arguments are being replaced: the list behind it, its name and closing parenthesis, its arguments, and
@@ -45,6 +64,27 @@ pub struct State {
     pub level: Level,
     pub pending: Vec<Pending>,
     pub sets: Sets,
+}
+
+/// A step with which the expansion goes on.
+pub fn went_on(step: Result<(), Refusal>) -> Result<Went, Refusal>
+    ensures { result ≡ went_on step }
+{
+    match step {
+        Ok(()) => Ok(Went::On),
+        Err(refusal) => Err(refusal),
+    }
+}
+
+/// A step that may have come into a use.
+pub fn went_into(step: Result<Option<Begun>, Refusal>) -> Result<Went, Refusal>
+    ensures { result ≡ went_into step }
+{
+    match step {
+        Ok(None) => Ok(Went::On),
+        Ok(Some(begun)) => Ok(Went::Into(begun)),
+        Err(refusal) => Err(refusal),
+    }
 }
 
 /// How many of these tokens are no line ends.
@@ -74,22 +114,23 @@ pub fn unmarked(alloc: Global, items: &[Marked]) -> Result<Vec<PpToken>, AllocEr
 }
 
 impl Level {
-    /// Nothing is left, and nothing came out.
+    /// Nothing is left, nothing came out, and no more tokens come.
     pub fn new(alloc: Global, outside: u64) -> Level
-        ensures { (result.rest ≡ []) × (result.out.items ≡ []) × (result.room ≡ 500000) × (result.outside ≡ outside) }
+        ensures { (result.rest ≡ []) × (result.out.items ≡ []) × (result.room ≡ 500000) × (result.outside ≡ outside) × (result.is_open ≡ false) }
     {
         Level {
             rest: Rest::new(alloc),
             out: Vec::new(alloc),
             room: LIMIT,
             outside,
+            is_open: false,
         }
     }
 
     /// A token stays.
     pub fn keep(&mut self, item: Marked) -> Result<(), Refusal>
         ensures refused { IfErr result StopsExpansion }
-        ensures value { (nodes : List Node) (table : Table) (known : List (List ℕ)) (frames : List Frame) → Steps table (items_of nodes self.old.out.items) frames (λ go. Expand.keep go known self.old.outside self.old.room (item_of nodes item) (items_of nodes self.old.rest)) result known (stage_of nodes self.new) frames }
+        ensures value { (nodes : List Node) (more : List PpToken) (table : Table) (known : List (List ℕ)) (frames : List Frame) → Steps table (items_of nodes self.old.out.items) frames (λ go. Expand.keep go known self.old.outside self.old.room (item_of nodes item) (rest_in nodes more self.old)) result known (stage_of nodes more self.new) frames }
     {
         if is_line_end(&item.token) {
             self.out.push(item)?;
@@ -106,7 +147,7 @@ impl Level {
     /// Puts a replacement before the rest of the list.
     pub fn put(&mut self, replacement: Vec<Marked>) -> Result<(), Refusal>
         ensures refused { IfErr result StopsExpansion }
-        ensures value { (nodes : List Node) (table : Table) (known : List (List ℕ)) (frames : List Frame) → Steps table (items_of nodes self.old.out.items) frames (λ go. Expand.put_before go known self.old.outside self.old.room (items_of nodes replacement.items) (items_of nodes self.old.rest)) result known (stage_of nodes self.new) frames }
+        ensures value { (nodes : List Node) (more : List PpToken) (table : Table) (known : List (List ℕ)) (frames : List Frame) → Steps table (items_of nodes self.old.out.items) frames (λ go. Expand.put_before go known self.old.outside self.old.room (items_of nodes replacement.items) (rest_in nodes more self.old)) result known (stage_of nodes more self.new) frames }
     {
         let size = count(&replacement)?;
         let more = plus(self.outside, size)?;
@@ -119,11 +160,11 @@ impl Level {
     }
 }
 
-/// A list of tokens as it stands.
-pub fn marked(alloc: Global, line: &[PpToken]) -> Result<Vec<Marked>, AllocError>
-    ensures { IfOk result (λ v. (nodes : List Node) → items_of nodes v.items ≡ Items.items line.now) }
+/// These tokens and those of a line as it stands.
+pub fn marked(items: Vec<Marked>, line: &[PpToken]) -> Result<Vec<Marked>, AllocError>
+    ensures { IfOk result (λ v. (nodes : List Node) → items_of nodes v.items ≡ items_of nodes items.items ++ Items.items line.now) }
 {
-    let mut items = Vec::new(alloc);
+    let mut items = items;
     let mut rest = line;
     while let Some((token, more)) = rest.split_first() {
         items.push(Marked::of(*token))?;

@@ -1,4 +1,4 @@
-use Rattle.std.proofs.Common.{◌≡◌, ◌∙◌, ℕ, List, [], ◌∷◌, ap, sym}
+use Rattle.std.proofs.Common.{◌∙◌, ℕ, List, [], ◌∷◌, ap, sym}
 use Rattle.c65_base.specs.declared.names.Name.{Name}
 use Rattle.c65_lex.specs.declared.token.PpKind.{PpKind}
 use Rattle.c65_macro.specs.declared.item.Macro.{Macro}
