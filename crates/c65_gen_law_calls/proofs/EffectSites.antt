@@ -11,6 +11,7 @@ use Rattle.c65_code.specs.declared.line.Line.TheVariants.{Label}
 use Rattle.c65_genframe.specs.Frames.{Framed}
 use Rattle.c65_genload.specs.declared.places.Place.{Place}
 use Rattle.c65_genload.specs.declared.places.Access.{Access}
+use Rattle.c65_genexpr.specs.declared.destination.Destination.TheVariants.{Registers, Pointer}
 use Rattle.c65_genexpr.specs.declared.wanted.Wanted.TheVariants.{Value}
 use Rattle.c65_genexpr.specs.Types.{bare, access_of, target_bytes}
 use Rattle.c65_genexpr.specs.Places.{place_of}
@@ -22,19 +23,18 @@ use Rattle.c65_geneffect.specs.declared.changing.Changing.{Changing}
 use Rattle.c65_geneffect.specs.declared.changing.Changing.TheVariants.{Fixed, Loaded, Otherwise}
 use Rattle.c65_geneffect.specs.declared.changing.Fill.{Fill}
 use Rattle.c65_genchange.specs.Changes.{change_code}
-use Rattle.c65_genchange.specs.Spots.{point_code}
 use Rattle.c65_geneffect.specs.Changing.{in_front, stepping_of, changing_of, number_in, filling_of}
 use Rattle.c65_geneffect.specs.declared.setting.Setting.{Setting}
 use Rattle.c65_geneffect.specs.declared.setting.Setting.TheVariants as settings
-use Rattle.c65_geneffect.specs.Setting.{setting_of, below_value, set_by}
+use Rattle.c65_geneffect.specs.Setting.{setting_of, below_value, base_for, set_by}
 use Rattle.c65_genexpr.specs.Held.{ptr2}
-use Rattle.c65_geneffect.specs.Effects.{fixed_code, stepped_by, changed_by, filled_or, set_code, changed_code, step_effect, effect_code, node_effect, effect_uses}
-use Rattle.c65_gen_law_lines.proofs.EffectForms.{IsSound, change_quiet, point_quiet, fill_still}
+use Rattle.c65_geneffect.specs.Effects.{stepped_by, changed_by, filled_or, set_code, changed_code, step_effect, effect_code, node_effect, effect_uses}
+use Rattle.c65_gen_law_lines.proofs.EffectForms.{IsSound, change_quiet, fill_still}
 use Rattle.c65_gen_law_lines.proofs.EffectFacts.{IsStep, stepping_sound, Unneeded, changing_unneeded, Unfilled, filling_unneeded, Unset, setting_unset}
 use Rattle.c65_gen_law_lines.proofs.StackPieces.{hold_leaves, keep_still}
 use Rattle.c65_gen_law_lines.proofs.FieldForms.{number_still, behind_still, set_leaves}
 use Rattle.c65_gen_law_calls.specs.Sites.{Site, sites_of, node_sites}
-use Rattle.c65_gen_law_calls.proofs.Callings.{Free, free_leaves, free_append, Has, has_then, has_before, has_behind, has_as}
+use Rattle.c65_gen_law_calls.proofs.Callings.{Free, free_leaves, Has, has_then, has_before, has_behind, has_as}
 use Rattle.c65_gen_law_calls.proofs.ExprSites.{left_sites, base_has, has_expression}
 
 constant_sites : (e : Typed) (z : ℤ) → constant_in e ≡ Some z → sites_of e ≡ []
@@ -51,33 +51,30 @@ number_sites (node t _) n h = absurd cc
 change_free : (change : Change) (label : ℕ) → IsSound change → Free (change_code change label)
 change_free change label sound = free_leaves ((change_quiet {ok = λ l. true} change label refl sound).still [])
 
-point_free : (place : Place) → Free (point_code place)
-point_free place = free_leaves ((point_quiet {ok = λ l. true} place).still [])
-
 label_free : (l : ℕ) → Free (Label l ∷ [])
 label_free l = record { none = refl }
 
 -- ---- the whole tree
 
-fixed_has : {f : Framed} {ss : List Site} {base : List Line} (change : Change) (place : Place) (label : ℕ) → IsSound change → Has f ss base → Has f ss (fixed_code change place label base)
-fixed_has change place label sound d = has_behind d (free_append (point_free place) (change_free change label sound))
+fixed_has : {f : Framed} {ss : List Site} {base : List Line} (change : Change) (label : ℕ) → IsSound change → Has f ss base → Has f ss (base ++ change_code change label)
+fixed_has change label sound d = has_behind d (change_free change label sound)
 
-stepped_has : {f : Framed} {ss : List Site} {base whole : List Line} (form : Option Change) (place : Place) (label : ℕ) → IsStep form → Has f ss base → Has f ss whole → Has f ss (stepped_by form place label base whole)
-stepped_has (Some change) place label sound db dw = fixed_has change place label sound db
-stepped_has None place label sound db dw = dw
+stepped_has : {f : Framed} {ss : List Site} {base whole : List Line} (form : Option Change) (label : ℕ) → IsStep form → Has f ss base → Has f ss whole → Has f ss (stepped_by form label base whole)
+stepped_has (Some change) label sound db dw = fixed_has change label sound db
+stepped_has None label sound db dw = dw
 
-changed_has : {f : Framed} {ss ts : List Site} {left right whole : List Line} (how : Changing) (place : Place) (label : ℕ) → Unneeded how (ts ≡ []) → Has f ss left → Has f ts right → Has f (ss ++ ts) whole
-    → Has f (ss ++ ts) (changed_by how place label left right whole)
-changed_has {ss = ss} {ts = ts} (Fixed change) place label unneeded dl dr dw = has_as (left_sites ss ts unneeded.1) (fixed_has change place label unneeded.0 dl)
-changed_has (Loaded change) place label unneeded dl dr dw = has_then dl (has_behind dr (change_free change label unneeded))
-changed_has Otherwise place label unneeded dl dr dw = has_behind dw (label_free label)
+changed_has : {f : Framed} {ss ts : List Site} {left right whole : List Line} (how : Changing) (label : ℕ) → Unneeded how (ts ≡ []) → Has f ss left → Has f ts right → Has f (ss ++ ts) whole
+    → Has f (ss ++ ts) (changed_by how label left right whole)
+changed_has {ss = ss} {ts = ts} (Fixed change) label unneeded dl dr dw = has_as (left_sites ss ts unneeded.1) (fixed_has change label unneeded.0 dl)
+changed_has (Loaded change) label unneeded dl dr dw = has_then dl (has_behind dr (change_free change label unneeded))
+changed_has Otherwise label unneeded dl dr dw = has_behind dw (label_free label)
 
 filled_has : {f : Framed} {ss : List Site} {base whole : List Line} (ts : List Site) (fill : Option Fill) → Unfilled fill (ts ≡ []) → Has f ss base → Has f (ss ++ ts) whole → Has f (ss ++ ts) (filled_or fill base whole)
 filled_has {ss = ss} ts (Some fill) unneeded db dw = has_as (left_sites ss ts unneeded) (has_behind db (free_leaves (fill_still fill.byte fill.low fill.high [])))
 filled_has ts None unneeded db dw = dw
 
 set_has : {f : Framed} {ss ts : List Site} {left right whole : List Line} (how : Setting) (place : Place) → Unset how (ts ≡ []) → Has f ss left → Has f ts right → Has f (ss ++ ts) whole → Has f (ss ++ ts) (set_by how place left right whole)
-set_has {ss = ss} {ts = ts} (settings.Number g n) place unset dl dr dw = has_as (left_sites ss ts unset) (has_behind dl (free_append (point_free place) (free_leaves (number_still place g n []))))
+set_has {ss = ss} {ts = ts} (settings.Number g n) place unset dl dr dw = has_as (left_sites ss ts unset) (has_behind dl (free_leaves (number_still place g n [])))
 set_has (settings.Held g at) place unset dl dr dw = has_then dl (has_before (free_leaves (keep_still [])) (has_behind dr (free_leaves (behind_still ptr2 at g []))))
 set_has (settings.Loaded g) place unset dl dr dw = has_then dl (has_before (free_leaves (hold_leaves place [])) (has_behind dr (free_leaves (set_leaves place g []))))
 set_has settings.Otherwise place unset dl dr dw = dw
@@ -87,20 +84,20 @@ field_has f pushed lo a b whole dw =
     let place : Place = place_of f pushed a in
     let access : Access = access_of (types_of f.parts.types) a in
     let how : Setting = setting_of f pushed place access b in
-    set_has how place (setting_unset _ f pushed place access b (λ n h. number_sites b n h)) (base_has f pushed lo a) (has_expression f (below_value how pushed place) (lo + uses None a) Value b) dw
+    set_has how place (setting_unset _ f pushed place access b (λ n h. number_sites b n h)) (base_has f pushed lo (base_for how) a) (has_expression f (below_value how pushed place) (lo + uses None a) Value b) dw
 
 step_has : (f : Framed) (pushed lo : ℕ) (t : QTy) (how : StepKind) (e : Typed) → Has f (sites_of e) (node_code f pushed lo Value t (step (in_front how) e)) → Has f (sites_of e) (step_effect f pushed lo how e)
 step_has f pushed lo t how e whole =
     let place : Place = place_of f pushed e in
     let access : Access = access_of (types_of f.parts.types) e in
-    stepped_has (stepping_of how (target_bytes f (bare e)) place access) place lo (stepping_sound how (target_bytes f (bare e)) place access) (base_has f pushed (lo + 1) e) whole
+    stepped_has (stepping_of how (target_bytes f (bare e)) place access) lo (stepping_sound how (target_bytes f (bare e)) place access) (base_has f pushed (lo + 1) Pointer e) whole
 
 op_has : (f : Framed) (pushed lo : ℕ) (op : BinaryOp) (size : ℕ) (a b : Typed) (whole : List Line) → Has f (sites_of a ++ sites_of b) whole → Has f (sites_of a ++ sites_of b) (changed_code f pushed lo op size a b whole)
 op_has f pushed lo op size a b whole dw =
     let place : Place = place_of f pushed a in
     let access : Access = access_of (types_of f.parts.types) a in
     let unneeded : Unneeded (changing_of op size place access b) (sites_of b ≡ []) = changing_unneeded _ op size place access b (λ z h. constant_sites b z h) in
-    changed_has (changing_of op size place access b) place lo unneeded (base_has f pushed (lo + 1) a) (has_expression f pushed (lo + 1 + uses None a) Value b) dw
+    changed_has (changing_of op size place access b) lo unneeded (base_has f pushed (lo + 1) Pointer a) (has_expression f pushed (lo + 1 + uses None a) Value b) dw
 
 mutual
   pub effect_has : (f : Framed) (pushed lo : ℕ) (e : Typed) → Has f (sites_of e) (effect_code f pushed lo e)
@@ -112,7 +109,7 @@ mutual
   node_effect_has f pushed lo t (assign a b) =
       let place : Place = place_of f pushed a in
       let access : Access = access_of (types_of f.parts.types) a in
-      filled_has (sites_of b) (filling_of place access b) (filling_unneeded _ place access b (λ n h. number_sites b n h)) (base_has f pushed lo a) (field_has f pushed lo a b (node_code f pushed lo Value t (assign a b)) (has_expression f pushed lo Value (node t (assign a b))))
+      filled_has (sites_of b) (filling_of place access b) (filling_unneeded _ place access b (λ n h. number_sites b n h)) (base_has f pushed lo Registers a) (field_has f pushed lo a b (node_code f pushed lo Value t (assign a b)) (has_expression f pushed lo Value (node t (assign a b))))
   node_effect_has f pushed lo t (assign_op op k a b) = op_has f pushed lo op 1 a b (node_code f pushed (lo + 1) Value t (assign_op op k a b)) (has_expression f pushed (lo + 1) Value (node t (assign_op op k a b)))
   node_effect_has f pushed lo t (assign_step op a b) = op_has f pushed lo op (target_bytes f (bare a)) a b (node_code f pushed (lo + 1) Value t (assign_step op a b)) (has_expression f pushed (lo + 1) Value (node t (assign_step op a b)))
   node_effect_has f pushed lo t (step PreInc e) = step_has f pushed lo t PreInc e (has_expression f pushed lo Value (node t (step PreInc e)))

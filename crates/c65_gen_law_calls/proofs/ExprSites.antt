@@ -32,6 +32,8 @@ use Rattle.c65_gendirect.specs.declared.compare.Sides.TheVariants.{Word}
 use Rattle.c65_gendirect.specs.declared.relation.Relation.{Relation}
 use Rattle.c65_gendirect.specs.Compare.{relation_of}
 use Rattle.c65_genshift.specs.Shifts.{labelled}
+use Rattle.c65_genexpr.specs.declared.destination.Destination.{Destination}
+use Rattle.c65_genexpr.specs.declared.destination.Destination.TheVariants.{Registers}
 use Rattle.c65_genexpr.specs.declared.operands.Operands.{Operands}
 use Rattle.c65_genexpr.specs.declared.operands.Operands.TheVariants.{Numbers, PointerFirst, PointerLast, Pointers}
 use Rattle.c65_genexpr.specs.declared.operating.Operating.{Operating}
@@ -55,7 +57,8 @@ use Rattle.c65_genexpr.specs.Direct.{kept_at, own_bytes}
 use Rattle.c65_genexpr.specs.Comparing.{relation_by, tested_by, comparing_of, on, low_code, below_side, comparison_by}
 use Rattle.c65_genexpr.specs.Held.{held_low, held_high}
 use Rattle.c65_genexpr.specs.Operating.{operating_of, waiting_code, stacked_code, below_operand, operator_by}
-use Rattle.c65_genexpr.specs.Storing.{storing_of, below_value, assigned_by}
+use Rattle.c65_genexpr.specs.Destination.{arrived, destination_of}
+use Rattle.c65_genexpr.specs.Storing.{storing_of, below_value, base_for, assigned_by}
 use Rattle.c65_genexpr.specs.Steps.{amount_of}
 use Rattle.c65_genexpr.specs.Arguments.{is_fast, is_counted, stays, passed_size, passed_of}
 use Rattle.c65_genexpr.specs.Arguments as arguments
@@ -64,12 +67,13 @@ use Rattle.c65_genexpr.specs.Uses.{uses, by_relation}
 use Rattle.c65_genfield.specs.Bits.{byte_field}
 use Rattle.c65_genexpr.specs.Code.{width_in, tested_load, load_by, behind_open, compound, call_by, expr_code, node_code, base_code, pointer_base_code, args_code}
 use Rattle.c65_gen_law_lines.proofs.Drops.{Unstored}
+use Rattle.c65_gen_law_lines.proofs.Pointed.{arrived_still, fetch_still}
 use Rattle.c65_gen_law_lines.proofs.StepForms.{step_quiet}
-use Rattle.c65_gen_law_lines.proofs.StackPieces.{narrow_still, keep_still, byte_behind_still, word_behind_still, read_store_still, byte_through_still, word_through_still, object_still, further_still, offset_still, conversion_still, push_leaves, argument_leaves, hold_leaves, bytes_still, load_still, stored_leaves, copy_leaves, spill_still, unary_still, between_leaves, behind_leaves, wide_leaves, open_leaves, close_leaves}
+use Rattle.c65_gen_law_lines.proofs.StackPieces.{narrow_still, keep_still, byte_behind_still, word_behind_still, read_bytes_still, byte_through_still, word_through_still, object_still, further_still, offset_still, conversion_still, push_leaves, argument_leaves, hold_leaves, bytes_still, stored_leaves, copy_leaves, spill_still, unary_still, between_leaves, behind_leaves, wide_leaves, open_leaves, close_leaves}
 use Rattle.c65_gen_law_stack.proofs.EvenLines.{Labels, No, One, Even, even_label, even_leaves}
 use Rattle.c65_gen_law_stack.proofs.EvenShifts.{elements_even}
 use Rattle.c65_gen_law_stack.proofs.EvenDirects.{byte_even, compare_even, compare_byte_even, zero_test_even, truth_even}
-use Rattle.c65_gen_law_stack.proofs.EvenForms.{loaded_test_even, value_test_even, routine_test_even, constant_even, form_even, keep_even}
+use Rattle.c65_gen_law_stack.proofs.EvenForms.{loaded_test_even, value_test_even, routine_test_even, constant_even, form_even, end_even, keep_even}
 use Rattle.c65_gen_law_stack.proofs.ReadSides.{Reaches, storing_reached, sum_reached, First, Compared, comparing_reached, Operated, operating_reached}
 use Rattle.c65_gen_law_calls.specs.Sites.{Site, site_by, unless_named, sites_of, node_sites, args_sites}
 use Rattle.c65_gen_law_calls.specs.Lines.{is_calling, named_line, line_by, line_of}
@@ -131,7 +135,7 @@ tested_has (Some d) kind s to pb free = has_behind pb (even_free (zero_test_even
 tested_has None kind s to pb free = has_behind pb free
 
 load_has : {f : Framed} {ss : List Site} {a : List Line} (w : Wanted) (place : Place) (access : Access) → Has f ss a → Has f ss (load_by w place access a)
-load_has Value place access p = has_behind p (free_leaves (load_still place access []))
+load_has Value place access p = has_behind p (free_leaves (fetch_still place access []))
 load_has (Test to s) place access p = tested_has (kept_at place access) (type_at access) s to p (even_free (loaded_test_even {X = One to} (byte_field access) place access s to refl))
 
 conversion_has : {f : Framed} {ss : List Site} {a : List Line} (w : Wanted) (same : Bool) (t : Ty) (from : IntType) → Has f ss a → Has f ss (conversion_by w same t from a)
@@ -156,16 +160,16 @@ stacked_free op (PointerFirst size) right = free_append (even_free (elements_eve
 stacked_free op (PointerLast size) right = free_leaves (behind_leaves op (PointerLast size) right [])
 stacked_free op (Pointers size) right = free_leaves (behind_leaves op (Pointers size) right [])
 
-operator_has : {f : Framed} {ss ts : List Site} {a b : List Line} (how : Operating) (op : BinaryOp) (operands : Operands) (right : IntType) (label : ℕ) → Operated (ss ≡ []) (ts ≡ []) how → Has f ss a → Has f ts b → Has f (ss ++ ts) (operator_by how op operands right label a b)
-operator_has {ss = ss} {ts = ts} (operating.Left form) op operands right label empty da db = has_as (left_sites ss ts empty) (has_behind da (even_free (form_even {X = No} form label)))
-operator_has {ss = ss} {ts = ts} (operating.Right form) op operands right label empty da db = has_as (right_sites ss ts empty) (has_behind db (even_free (form_even {X = No} form label)))
-operator_has (operating.Held form) op operands right label empty da db = has_then da (has_before (even_free (keep_even {X = No})) (has_behind db (even_free (form_even {X = No} form label))))
-operator_has operating.Stacked op operands right label empty da db = labelled_has label (has_then da (has_before (waiting_free operands) (has_behind db (stacked_free op operands right))))
+operator_has : {f : Framed} {ss ts : List Site} {a b : List Line} (d : Destination) (how : Operating) (op : BinaryOp) (operands : Operands) (right : IntType) (label : ℕ) → Operated (ss ≡ []) (ts ≡ []) how → Has f ss a → Has f ts b → Has f (ss ++ ts) (operator_by d how op operands right label a b)
+operator_has {ss = ss} {ts = ts} d (operating.Left form) op operands right label empty da db = has_as (left_sites ss ts empty) (has_behind da (even_free (form_even {X = No} d form label)))
+operator_has {ss = ss} {ts = ts} d (operating.Right form) op operands right label empty da db = has_as (right_sites ss ts empty) (has_behind db (even_free (form_even {X = No} d form label)))
+operator_has d (operating.Held form) op operands right label empty da db = has_then da (has_before (even_free (keep_even {X = No})) (has_behind db (even_free (form_even {X = No} d form label))))
+operator_has d operating.Stacked op operands right label empty da db = has_then da (has_before (waiting_free operands) (has_behind db (free_append (stacked_free op operands right) (even_free (end_even {X = No} d label)))))
 
 -- ---- assignments
 
 assigned_has : {f : Framed} {ss ts : List Site} {a b : List Line} (how : Storing) (place : Place) (access : Access) → Unstored how (ss ≡ []) (ts ≡ []) → Has f ss a → Has f ts b → Has f (ss ++ ts) (assigned_by how place access a b)
-assigned_has {ss = ss} {ts = ts} (storing.Left at stored) place access empty da db = has_as (left_sites ss ts empty) (has_behind da (free_append (free_leaves (read_store_still at stored [])) (free_leaves (narrow_still (type_at access) []))))
+assigned_has {ss = ss} {ts = ts} (storing.Left at stored) place access empty da db = has_as (left_sites ss ts empty) (has_behind da (free_append (free_leaves (read_bytes_still at stored [])) (free_leaves (narrow_still (type_at access) []))))
 assigned_has {ss = ss} {ts = ts} (storing.RightByte at low high) place access empty da db =
     has_as (right_sites ss ts empty) (has_behind db (free_append (free_leaves (byte_through_still at low high [])) (free_leaves (narrow_still (type_at access) []))))
 assigned_has {ss = ss} {ts = ts} (storing.RightWord at low high) place access empty da db = has_as (right_sites ss ts empty) (has_behind db (free_leaves (word_through_still at low high [])))
@@ -180,6 +184,9 @@ either_has false da db = db
 sum_has : {f : Framed} {ss ts : List Site} {a b : List Line} (c : Bool) (lo : ℕ) → (c ≡ true → ts ≡ []) → Has f ss a → Has f (ss ++ ts) b → Has f (ss ++ ts) (if c then Label lo ∷ a else b)
 sum_has {ss = ss} {ts = ts} true lo empty da db = has_as (left_sites ss ts (empty refl)) (has_line (Label lo) refl da)
 sum_has false lo empty da db = db
+
+arrived_has : {f : Framed} {ss : List Site} {a : List Line} (d : Destination) → Has f ss a → Has f ss (a ++ arrived d)
+arrived_has d p = has_behind p (free_leaves (arrived_still d []))
 
 -- ---- comparisons
 
@@ -272,7 +279,9 @@ mutual
   node_has f pushed lo w t (func i) = wanted_has w (width_in t) (record { is = refl })
   node_has f pushed lo w t (deref e) = wanted_has w (width_in t) (expr_has f pushed lo Value e)
   node_has f pushed lo w t (member e m) = wanted_has w (width_in t) (has_behind (expr_has f pushed lo Value e) (free_leaves (offset_still (offset_at (types_of f.parts.types) (bare e) m) [])))
-  node_has f pushed lo w t (load e) = load_has w (place_of f pushed e) (access_of (types_of f.parts.types) e) (base_has f pushed lo e)
+  node_has f pushed lo w t (load e) =
+      let access : Access = access_of (types_of f.parts.types) e in
+      load_has w (place_of f pushed e) access (base_has f pushed lo (destination_of access) e)
   node_has f pushed lo w t (address e) = wanted_has w (width_in t) (expr_has f pushed lo Value e)
   node_has f pushed lo w t (decay e) = wanted_has w (width_in t) (expr_has f pushed lo Value e)
   node_has f pushed lo w t (convert e) =
@@ -285,7 +294,7 @@ mutual
       let bytes : ℕ = waiting (width_of (computes operands)) in
       let operator : Operating = operating_of f pushed op operands a b in
       relation_has (relation_of op)
-      (wanted_has w (width_in t) (operator_has operator op operands (kind_in b) lo (operating_reached no_site f pushed op operands a b) (expr_has f pushed (lo + 1) Value a) (expr_has f (below_operand operator pushed bytes) (lo + 1 + uses None a) Value b)))
+      (wanted_has w (width_in t) (operator_has Registers operator op operands (kind_in b) lo (operating_reached no_site f pushed op operands a b) (expr_has f pushed (lo + 1) Value a) (expr_has f (below_operand operator pushed bytes) (lo + 1 + uses None a) Value b)))
       (λ r.
       let q : Relation = relation_by (sense w) r in
       let how : Comparing = comparing_of f pushed q (computes operands) a b in
@@ -310,39 +319,43 @@ mutual
   node_has f pushed lo w t (assign a b) =
       let place : Place = place_of f pushed a in
       let how : Storing = storing_of f pushed a b in
-      wanted_has w (width_in t) (assigned_has how place (access_of (types_of f.parts.types) a) (storing_reached no_site f pushed a b) (base_has f pushed lo a) (expr_has f (below_value how pushed place) (lo + uses None a) Value b))
-  node_has f pushed lo w t (assign_op op k a b) = wanted_has w (width_in t) (compound_has pushed op (Numbers k) a b (base_has f pushed lo a) (expr_has f (behind_open f pushed (Numbers k) a) (lo + uses None a) Value b))
+      wanted_has w (width_in t) (assigned_has how place (access_of (types_of f.parts.types) a) (storing_reached no_site f pushed a b) (base_has f pushed lo (base_for how) a) (expr_has f (below_value how pushed place) (lo + uses None a) Value b))
+  node_has f pushed lo w t (assign_op op k a b) = wanted_has w (width_in t) (compound_has pushed op (Numbers k) a b (base_has f pushed lo Registers a) (expr_has f (behind_open f pushed (Numbers k) a) (lo + uses None a) Value b))
   node_has f pushed lo w t (assign_step op a b) =
       let operands : Operands = PointerFirst (target_bytes f (bare a)) in
-      wanted_has w (width_in t) (compound_has pushed op operands a b (base_has f pushed lo a) (expr_has f (behind_open f pushed operands a) (lo + uses None a) Value b))
+      wanted_has w (width_in t) (compound_has pushed op operands a b (base_has f pushed lo Registers a) (expr_has f (behind_open f pushed operands a) (lo + uses None a) Value b))
   node_has f pushed lo w t (step how e) =
       let place : Place = place_of f pushed e in
-      wanted_has w (width_in t) (has_behind (base_has f pushed (lo + 1) e) (free_leaves ((step_quiet {ok = λ l. true} how (target_bytes f (bare e)) (amount_of f how (bare e)) place (access_of (types_of f.parts.types) e) lo refl).still [])))
+      wanted_has w (width_in t) (has_behind (base_has f pushed (lo + 1) Registers e) (free_leaves ((step_quiet {ok = λ l. true} how (target_bytes f (bare e)) (amount_of f how (bare e)) place (access_of (types_of f.parts.types) e) lo refl).still [])))
   node_has f pushed lo w t (copy a b) =
       wanted_has w (width_in t) (has_then (expr_has f pushed lo Value a) (has_before (free_leaves (push_leaves Ax [])) (has_behind (expr_has f (more pushed 2) (lo + uses None a) Value b) (free_leaves (copy_leaves (type_bytes f (type_in t)) [])))))
   node_has f pushed lo w t (call g es) =
       wanted_has w (width_in t) (call_has (named g) t g es refl (expr_has f pushed lo Value g) (args_has f pushed lo (is_fast (bare g)) es) (args_has f (more pushed 2) (lo + uses None g) (is_fast (bare g)) es))
-  node_has f pushed lo w t (pack e) = wanted_has w (width_in t) (has_behind (base_has f pushed lo e) (free_leaves (bytes_still (place_of f pushed e) (extent_by (type_bytes f (type_in t))) [])))
+  node_has f pushed lo w t (pack e) = wanted_has w (width_in t) (has_behind (base_has f pushed lo Registers e) (free_leaves (bytes_still (place_of f pushed e) (extent_by (type_bytes f (type_in t))) [])))
   node_has f pushed lo w t (spill i e) = wanted_has w (width_in t) (has_behind (expr_has f pushed lo Value e) (free_leaves (spill_still (object_code f pushed i) (extent_by (type_bytes f (type_in t))) (object_still f pushed i) [])))
   node_has f pushed lo w t further = wanted_has w (width_in t) (has_free (free_leaves (further_still f pushed [])))
 
-  pub base_has : (f : Framed) (pushed lo : ℕ) (e : Typed) → Has f (sites_of e) (base_code f pushed lo e)
-  base_has f pushed lo (node t (literal n)) = has_none
-  base_has f pushed lo (node t (object i)) = target_has (object_place f pushed i) (node_has f pushed lo Value t (object i))
-  base_has f pushed lo (node t (deref e)) = pointer_base_has f pushed lo e
-  base_has f pushed lo (node t (member e m)) =
+  pub base_has : (f : Framed) (pushed lo : ℕ) (d : Destination) (e : Typed) → Has f (sites_of e) (base_code f pushed lo d e)
+  base_has f pushed lo d (node t (literal n)) = has_none
+  base_has f pushed lo d (node t (object i)) = target_has (object_place f pushed i) (arrived_has d (node_has f pushed lo Value t (object i)))
+  base_has f pushed lo d (node t (deref e)) = pointer_base_has f pushed lo d e
+  base_has f pushed lo d (node t (member e m)) =
       let n : ℕ = offset_at (types_of f.parts.types) (bare e) m in
-      either_has (has_base (place_of f pushed e) n) (base_has f pushed lo e) (has_behind (expr_has f pushed lo Value e) (free_leaves (offset_still n [])))
-  base_has f pushed lo (node t n) = node_has f pushed lo Value t n
+      either_has (has_base (place_of f pushed e) n) (base_has f pushed lo d e) (has_behind (expr_has f pushed lo Value e) (free_append (free_leaves (offset_still n [])) (free_leaves (arrived_still d []))))
+  base_has f pushed lo d (node t n) = arrived_has d (node_has f pushed lo Value t n)
 
-  pointer_base_has : (f : Framed) (pushed lo : ℕ) (e : Typed) → Has f (sites_of e) (pointer_base_code f pushed lo e)
-  pointer_base_has f pushed lo (node t (binary op a b)) =
+  pointer_base_has : (f : Framed) (pushed lo : ℕ) (d : Destination) (e : Typed) → Has f (sites_of e) (pointer_base_code f pushed lo d e)
+  pointer_base_has f pushed lo d (node t (binary op a b)) =
       let operands : Operands = operands_of f (bare a) (bare b) in
       let place : Place = target_of f pushed a in
-      sum_has (sum_has_base place (added_bytes op operands (constant_in b))) lo (λ h. sum_reached no_site place op operands b h) (pointer_base_has f pushed (lo + 1) a) (node_has f pushed lo Value t (binary op a b))
-  pointer_base_has f pushed lo (node t (address e)) = base_has f pushed lo e
-  pointer_base_has f pushed lo (node t (decay e)) = base_has f pushed lo e
-  pointer_base_has f pushed lo (node t n) = node_has f pushed lo Value t n
+      let operator : Operating = operating_of f pushed op operands a b in
+      sum_has (sum_has_base place (added_bytes op operands (constant_in b))) lo (λ h. sum_reached no_site place op operands b h) (pointer_base_has f pushed (lo + 1) d a)
+      (relation_has (relation_of op)
+      (operator_has d operator op operands (kind_in b) lo (operating_reached no_site f pushed op operands a b) (expr_has f pushed (lo + 1) Value a) (expr_has f (below_operand operator pushed (waiting (width_of (computes operands)))) (lo + 1 + uses None a) Value b))
+      (λ r. arrived_has d (node_has f pushed lo Value t (binary op a b))))
+  pointer_base_has f pushed lo d (node t (address e)) = base_has f pushed lo d e
+  pointer_base_has f pushed lo d (node t (decay e)) = base_has f pushed lo d e
+  pointer_base_has f pushed lo d (node t n) = arrived_has d (node_has f pushed lo Value t n)
 
   args_has : (f : Framed) (pushed lo : ℕ) (fast : Bool) (es : Nodes) → Has f (args_sites es) (args_code f pushed lo fast es)
   args_has f pushed lo fast none = has_none

@@ -11,7 +11,7 @@ use Rattle.c65_code.specs.declared.line.Sym.{Sym}
 use Rattle.c65_code.specs.declared.line.Operand.TheVariants.{To}
 use Rattle.c65_code.specs.declared.line.Line.TheVariants.{Do}
 use Rattle.c65_genwide.specs.Lines.{value}
-use Rattle.c65_genload.specs.Words.{sreg, tmp1, tmp2, implied, zero_page, by_y, absolute, branch}
+use Rattle.c65_genload.specs.Words.{ptr1, sreg, tmp1, tmp2, implied, zero_page, by_y, absolute, branch}
 use Rattle.c65_genload.specs.Numbers.{first, second}
 use Rattle.c65_gendirect.specs.declared.bytes.OperandByte.{OperandByte}
 use Rattle.c65_gendirect.specs.declared.bytes.OperandByte.TheVariants.{Number, Low, High, Near, Data, Zero}
@@ -20,7 +20,8 @@ use Rattle.c65_gendirect.specs.declared.compare.Sides.TheVariants.{Word, Long}
 use Rattle.c65_gendirect.specs.declared.relation.Relation.{Relation}
 use Rattle.c65_gendirect.specs.declared.relation.Relation.TheVariants.{Less, NotLess, Greater, NotGreater, Equal, Unequal}
 use Rattle.c65_gendirect.specs.Bytes.{op_of, aside, back}
-use Rattle.c65_gendirect.specs.Compare.{lowest_code, difference_code, by_carry, by_sign, order_code, second_code, same_code, compare_code, compare_byte_code}
+use Rattle.c65_gendirect.specs.Compare.{lowest_code, difference_code, by_carry, by_sign, order_code, second_code, same_code, is_sign_test, highest_code, ordered_code, compare_code, compare_byte_code}
+use Rattle.c65_gendirect.specs.Pointed.{pointer_code, pointed_sum_code}
 use Rattle.c65_gendirect.specs.Tests.{or_code, all_zero_code, zero_test_code, truth_code}
 use Rattle.c65_gendirect.specs.Words.{instruction, carry_code, first_byte_code, both_bytes_code, onward_code, end_label, is_and, is_number, word_code, sum_code, add_number_code, taken_from_code, long_mask_code}
 use Rattle.c65_gen_law_lines.proofs.Made.{is_early, Piece, nowhere, once_at}
@@ -158,6 +159,15 @@ word_quiet op low high fresh passes = quiet_if (is_number 0 high)
 pub sum_quiet : {ok : ℕ → Bool} (low high : OperandByte) → Quiet ok nowhere 13 (sum_code low high)
 sum_quiet low high = both_quiet ops.Add low high
 
+pub pointer_quiet : {ok : ℕ → Bool} → Quiet ok nowhere 4 pointer_code
+pointer_quiet = quiet_piece (record { plain = refl; fit = refl; size = omega arith }) (λ v. record { to = λ calls. refl })
+
+pub pointed_sum_quiet : {ok : ℕ → Bool} (low high : OperandByte) → Quiet ok nowhere 14 (pointed_sum_code low high)
+pointed_sum_quiet {ok = ok} low high =
+    let next : Quiet ok nowhere 3 (zero_page Sta ptr1 ∷ implied Txa ∷ []) = quiet_piece (record { plain = refl; fit = refl; size = omega arith }) (λ v. record { to = λ calls. refl }) in
+    let last : Quiet ok nowhere 2 (zero_page Sta (ptr1 + 1) ∷ []) = quiet_piece (record { plain = refl; fit = refl; size = omega arith }) (λ v. record { to = λ calls. refl }) in
+    quiet_as (λ l. refl) (quiet_then (first_quiet ops.Add low) (quiet_then next (quiet_then (byte_quiet Adc high reads_adc) last)))
+
 pub added_quiet : {ok : ℕ → Bool} (n fresh : ℕ) → ok fresh ≡ true → Quiet ok (once_at fresh) 13 (add_number_code n fresh)
 added_quiet n fresh passes = quiet_if (n % 65536 == 0) (quiet_wider (quiet_label fresh) (omega arith))
     (quiet_if (second n == 255 && nat_lt 0 (first n)) (word_quiet ops.Sub (Number (256 - first n)) (Number 0) fresh passes) (word_quiet ops.Add (Number (first n)) (Number (second n)) fresh passes))
@@ -239,8 +249,14 @@ same_quiet {ok = ok} (Long d0 d1 d2 d3) other passes =
     let fourth : Quiet ok nowhere 2 (zero_page Lda (sreg + 1) ∷ []) = quiet_piece (record { plain = refl; fit = refl; size = omega arith }) (λ v. record { to = λ calls. refl }) in
     quiet_as (λ l. refl) (quiet_then (byte_quiet Cmp d0 reads_cmp) (quiet_then apart (quiet_then (second_quiet d1) (quiet_then apart (quiet_then third (quiet_then (byte_quiet Cmp d2 reads_cmp) (quiet_then apart (quiet_then fourth (byte_quiet Cmp d3 reads_cmp)))))))))
 
-ordered_quiet : {ok : ℕ → Bool} (r : Relation) (is_signed : Bool) (sides : Sides) (fresh to : ℕ) → ok fresh ≡ true → ok to ≡ true → Quiet ok (once_at fresh) 46 (difference_code r sides ++ order_code r is_signed fresh to)
-ordered_quiet r is_signed sides fresh to own other = quiet_wider (quiet_as (λ l. omega arith) (quiet_then (difference_quiet r sides) (order_quiet r is_signed fresh to own other))) (omega arith)
+highest_quiet : {ok : ℕ → Bool} (sides : Sides) → Quiet ok nowhere 2 (highest_code sides)
+highest_quiet (Word low high) = quiet_piece (record { plain = refl; fit = refl; size = omega arith }) (λ v. record { to = λ calls. refl })
+highest_quiet (Long d0 d1 d2 d3) = quiet_piece (record { plain = refl; fit = refl; size = omega arith }) (λ v. record { to = λ calls. refl })
+
+ordered_quiet : {ok : ℕ → Bool} (r : Relation) (is_signed : Bool) (sides : Sides) (fresh to : ℕ) → ok fresh ≡ true → ok to ≡ true → Quiet ok (once_at fresh) 46 (ordered_code r is_signed sides fresh to)
+ordered_quiet r is_signed sides fresh to own other = quiet_if (is_sign_test r is_signed sides)
+    (quiet_wider (quiet_as (λ l. omega arith) (quiet_then (highest_quiet sides) (quiet_then (quiet_label fresh) (quiet_branch (by_sign r) to (sign_fits r) other)))) (omega arith))
+    (quiet_wider (quiet_as (λ l. omega arith) (quiet_then (difference_quiet r sides) (order_quiet r is_signed fresh to own other))) (omega arith))
 
 pub compare_quiet : {ok : ℕ → Bool} (r : Relation) (is_signed : Bool) (sides : Sides) (fresh to : ℕ) → ok fresh ≡ true → ok to ≡ true → Quiet ok (once_at fresh) 46 (compare_code r is_signed sides fresh to)
 compare_quiet Equal is_signed sides fresh to own other = quiet_wider (quiet_as (λ l. omega arith) (quiet_then (same_quiet sides fresh own) (quiet_then (quiet_branch Beq to refl other) (quiet_label fresh)))) (omega arith)

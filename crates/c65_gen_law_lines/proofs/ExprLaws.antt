@@ -26,6 +26,8 @@ use Rattle.c65_genload.specs.Conversions.{waiting, size_of}
 use Rattle.c65_gendirect.specs.declared.relation.Relation.{Relation}
 use Rattle.c65_gendirect.specs.Compare.{relation_of}
 use Rattle.c65_genexpr.specs.declared.types.Outcome.{Outcome}
+use Rattle.c65_genexpr.specs.declared.destination.Destination.{Destination}
+use Rattle.c65_genexpr.specs.declared.destination.Destination.TheVariants.{Registers}
 use Rattle.c65_genexpr.specs.declared.operands.Operands.{Operands}
 use Rattle.c65_genexpr.specs.declared.operands.Operands.TheVariants.{Numbers, PointerFirst}
 use Rattle.c65_genexpr.specs.declared.comparing.Comparing.{Comparing}
@@ -41,7 +43,8 @@ use Rattle.c65_genexpr.specs.Direct.{kept_at}
 use Rattle.c65_genexpr.specs.Wanted.{sense_of, wanted_by, handed, handed_sense, wanted, aimed, sense, truth_labels, inner, truth_by, is_straight, way, way_labels}
 use Rattle.c65_genexpr.specs.Comparing.{relation_by, tested_by, comparing_of, below_side}
 use Rattle.c65_genexpr.specs.Operating.{operating_of, below_operand}
-use Rattle.c65_genexpr.specs.Storing.{storing_of, below_value, assigned_by}
+use Rattle.c65_genexpr.specs.Destination.{arrived, destination_of}
+use Rattle.c65_genexpr.specs.Storing.{storing_of, below_value, base_for, assigned_by}
 use Rattle.c65_genexpr.specs.Steps.{amount_of}
 use Rattle.c65_genexpr.specs.Arguments.{is_fast, is_counted, stays, passed_size, passed_of, argument_bytes}
 use Rattle.c65_genexpr.specs.Calls.{named}
@@ -51,7 +54,8 @@ use Rattle.c65_gen_law_lines.specs.Bulk.{nodes, nodes_in}
 use Rattle.c65_gen_law_lines.specs.Labels.{aims, may_lead}
 use Rattle.c65_gen_law_lines.specs.Laws.{ExpressionsOwnTheirLabels, ExpressionsAreSmall, ExpressionsAreFit}
 use Rattle.c65_gen_law_lines.proofs.Made.{all_fit, among_split, among_one, piece_append, stretch_then, stretch_label, stretch_made, made_stretch, leads_within, leads_inner, once_at, Made, made_piece, made_append, made_behind, made_before, made_wider, made_as, made_none, leads_outer}
-use Rattle.c65_gen_law_lines.proofs.Pieces.{narrow_piece, keep_piece, byte_behind_piece, word_behind_piece, read_store_piece, byte_through_piece, word_through_piece, by_access, passing_by, passing, part_piece, spill_piece, further_piece, symbol_piece, object_piece, offset_piece, load_piece, unary_piece, push_piece, hold_piece, store_piece, copy_piece, open_piece, close_piece, named_piece, pointer_piece, argument_piece, direct_piece}
+use Rattle.c65_gen_law_lines.proofs.Pieces.{narrow_piece, keep_piece, byte_behind_piece, word_behind_piece, read_bytes_piece, byte_through_piece, word_through_piece, by_access, passing_by, passing, part_piece, spill_piece, further_piece, symbol_piece, object_piece, offset_piece, unary_piece, push_piece, hold_piece, store_piece, copy_piece, open_piece, close_piece, named_piece, pointer_piece, argument_piece, direct_piece}
+use Rattle.c65_gen_law_lines.proofs.Pointed.{arrived_piece, fetch_piece}
 use Rattle.c65_gen_law_lines.proofs.Quiet.{Quiet}
 use Rattle.c65_gen_law_lines.proofs.StepForms.{step_quiet}
 use Rattle.c65_gen_law_lines.proofs.Drops.{comparing_uses, Unstored, storing_uses, sum_uses, operating_uses}
@@ -149,7 +153,7 @@ access_fits whole part types (node t _) le most = omega arith
 
 assigned_made : {lo n m j k w : ℕ} {a b : List Line} (how : Storing) (place : Place) (access : Access) → Unstored how (n ≡ 0) (m ≡ 0) → by_access 19 86 access ≤ w → Made [] lo n j a → Made [] (lo + n) m k b
     → Made [] lo (n + m) (j + k + (25 + w)) (assigned_by how place access a b)
-assigned_made (storing.Left at stored) place access unread le ma mb = made_as (omega (arith, unread)) (made_wider (made_behind ma (piece_append 22 3 _ _ (read_store_piece at stored) (narrow_piece (loads.type_in access)))) (omega arith))
+assigned_made (storing.Left at stored) place access unread le ma mb = made_as (omega (arith, unread)) (made_wider (made_behind ma (piece_append 18 3 _ _ (read_bytes_piece at stored) (narrow_piece (loads.type_in access)))) (omega arith))
 assigned_made (storing.RightByte at low high) place access unread le ma mb =
     made_as (omega (arith, unread)) (made_from (omega (arith, unread)) (made_wider (made_behind mb (piece_append 22 3 _ _ (byte_through_piece at low high) (narrow_piece (loads.type_in access)))) (omega arith)))
 assigned_made (storing.RightWord at low high) place access unread le ma mb = made_as (omega (arith, unread)) (made_from (omega (arith, unread)) (made_wider (made_behind mb (word_through_piece at low high)) (omega arith)))
@@ -198,11 +202,15 @@ call_made f None given g (some e more_args) mc ma mb =
     let es : Nodes = some e more_args in
     made_wider (made_append mc (made_before (push_piece Ax) (made_behind mb (pointer_piece (is_counted (bare g)) (passed_of f (is_fast (bare g)) es) given)))) (omega arith)
 
+some_load : (access : Access) → 4 ≤ by_access 19 36 access
+some_load (Whole kind) = omega arith
+some_load (Part field) = omega arith
+
 -- a load, or a test of what is kept
-load_made : {lo n k w : ℕ} {a : List Line} (wants : Wanted) (place : Place) (access : Access) → by_access 19 36 access ≤ w → Made [] lo n k a → Made (aims wants) lo n (k + w + 23) (load_by wants place access a)
-load_made Value place access le m = made_wider (made_behind m (load_piece place access)) (omega (arith, le))
+load_made : {lo n k w : ℕ} {a : List Line} (wants : Wanted) (place : Place) (access : Access) → by_access 19 36 access ≤ w → Made [] lo n k a → Made (aims wants) lo n (k + w + 19) (load_by wants place access a)
+load_made Value place access le m = made_wider (made_behind m (fetch_piece place access)) (omega (arith, le))
 load_made {lo = lo} {n = n} (Test to s) place access le m =
-    tested_made (kept_at place access) (loads.type_in access) s to (omega (arith, le)) (omega (arith, le)) m (test_part (byte_field access) place access s to (leads_outer lo n to))
+    tested_made (kept_at place access) (loads.type_in access) s to (omega (arith, le, some_load access)) (omega (arith, le)) m (test_part (byte_field access) place access s to (leads_outer lo n to))
 
 -- ---- the whole tree
 
@@ -228,11 +236,11 @@ Parts f e = (pushed lo : ℕ) (w : Wanted) → Made (aims w) lo (uses (sense_of 
 
 binary_made : (f : Framed) (pushed lo : ℕ) (w : Wanted) (t : QTy) (op : BinaryOp) (a b : Typed) → Parts f a → Parts f b → (r : Option Relation)
     → Made (aims w) lo (by_relation r (1 + (uses None a + uses None b)) (λ q. truth_labels (sense_of w) + comparison_uses (relation_by (sense w) q) a b)) (room (node t (binary op a b)))
-    (by_relation r (wanted w (width_in t) (operator_code f pushed lo op a b)) (λ q. truth_by w lo (comparison_code f pushed (inner w lo) (aimed w lo) (sense w) op q a b)))
+    (by_relation r (wanted w (width_in t) (operator_code f pushed lo Registers op a b)) (λ q. truth_by w lo (comparison_code f pushed (inner w lo) (aimed w lo) (sense w) op q a b)))
 binary_made f pushed lo w t op a b ma mb None =
     let operands : Operands = operands_of f (bare a) (bare b) in
     let how : Operating = operating_of f pushed op operands a b in
-    made_wider (wanted_made w (width_in t) (operator_made how op operands (kind_in b) lo (operating_uses f pushed op operands a b) (ma pushed (lo + 1) Value) (mb (below_operand how pushed (waiting (width_of (computes operands)))) (lo + 1 + uses None a) Value))) (omega (arith, some_nodes a, some_nodes b))
+    made_wider (wanted_made w (width_in t) (operator_made Registers how op operands (kind_in b) lo (operating_uses f pushed op operands a b) (ma pushed (lo + 1) Value) (mb (below_operand how pushed (waiting (width_of (computes operands)))) (lo + 1 + uses None a) Value))) (omega (arith, some_nodes a, some_nodes b))
 binary_made f pushed lo w t op a b ma mb (Some r) =
     let operands : Operands = operands_of f (bare a) (bare b) in
     let q : Relation = relation_by (sense w) r in
@@ -241,6 +249,17 @@ binary_made f pushed lo w t op a b ma mb (Some r) =
     let own : ℕ = inner w lo in
     made_wider (truth_made w lo (comparison_made how op operands (kind_in b) (sense w) to own (comparing_uses f pushed q (computes operands) a b)
     (tested_side a (tested_by q b) to (ma pushed (own + 1) (wanted_by (tested_by q b) to))) (tested_side b (tested_by q a) to (mb (below_side how pushed (waiting (width_of (computes operands)))) (own + 1 + uses (tested_by q b) a) (wanted_by (tested_by q a) to))))) (omega (arith, some_nodes a, some_nodes b))
+
+-- a sum goes straight to where its address is wanted; a comparison, which is none, has its lines
+sum_base_made : (f : Framed) (pushed lo : ℕ) (d : Destination) (t : QTy) (op : BinaryOp) (a b : Typed) → Parts f a → Parts f b → (r : Option Relation)
+    → Made [] lo (by_relation r (1 + (uses None a + uses None b)) (λ q. truth_labels None + comparison_uses (relation_by false q) a b)) (room (node t (binary op a b))) (node_code f pushed lo Value t (binary op a b))
+    → Made [] lo (by_relation r (1 + (uses None a + uses None b)) (λ q. truth_labels None + comparison_uses (relation_by false q) a b)) (room (node t (binary op a b)) + 4)
+    (by_relation r (operator_code f pushed lo d op a b) (λ q. node_code f pushed lo Value t (binary op a b) ++ arrived d))
+sum_base_made f pushed lo d t op a b ma mb None whole =
+    let operands : Operands = operands_of f (bare a) (bare b) in
+    let how : Operating = operating_of f pushed op operands a b in
+    made_wider (operator_made d how op operands (kind_in b) lo (operating_uses f pushed op operands a b) (ma pushed (lo + 1) Value) (mb (below_operand how pushed (waiting (width_of (computes operands)))) (lo + 1 + uses None a) Value)) (omega (arith, some_nodes a, some_nodes b))
+sum_base_made f pushed lo d t op a b ma mb (Some r) whole = made_behind whole (arrived_piece d)
 
 mutual
   pub expr_made : (f : Framed) (pushed lo : ℕ) (w : Wanted) (e : Typed) → Made (aims w) lo (uses (sense_of w) e) (room e) (expr_code f pushed lo w e)
@@ -257,7 +276,7 @@ mutual
   node_made f pushed lo w t (load e) =
       let place : Place = place_of f pushed e in
       let access : Access = access_of (types_of f.parts.types) e in
-      made_wider (load_made w place access (access_fits 19 36 (types_of f.parts.types) e (omega arith) (omega arith)) (base_made f pushed lo e)) (omega (arith, some_nodes e, slack_fits e))
+      made_wider (load_made w place access (access_fits 19 36 (types_of f.parts.types) e (omega arith) (omega arith)) (base_made f pushed lo (destination_of access) e)) (omega (arith, some_nodes e, slack_fits e))
   node_made f pushed lo w t (address e) = made_wider (wanted_made w (width_in t) (expr_made f pushed lo Value e)) (omega (arith, some_nodes e))
   node_made f pushed lo w t (decay e) = made_wider (wanted_made w (width_in t) (expr_made f pushed lo Value e)) (omega (arith, some_nodes e))
   node_made f pushed lo w t (convert e) =
@@ -288,44 +307,45 @@ mutual
       let place : Place = place_of f pushed a in
       let access : Access = access_of (types_of f.parts.types) a in
       let how : Storing = storing_of f pushed a b in
-      made_wider (wanted_made w (width_in t) (assigned_made how place access (storing_uses f pushed a b) (access_fits 19 86 (types_of f.parts.types) a (omega arith) (omega arith)) (base_made f pushed lo a) (expr_made f (below_value how pushed place) (lo + uses None a) Value b))) (omega (arith, some_nodes a, some_nodes b, slack_fits a))
+      made_wider (wanted_made w (width_in t) (assigned_made how place access (storing_uses f pushed a b) (access_fits 19 86 (types_of f.parts.types) a (omega arith) (omega arith)) (base_made f pushed lo (base_for how) a) (expr_made f (below_value how pushed place) (lo + uses None a) Value b))) (omega (arith, some_nodes a, some_nodes b, slack_fits a))
   node_made f pushed lo w t (assign_op op k a b) =
-      made_wider (wanted_made w (width_in t) (compound_made f pushed op (Numbers k) a b (base_made f pushed lo a) (expr_made f (behind_open f pushed (Numbers k) a) (lo + uses None a) Value b))) (omega (arith, some_nodes a, some_nodes b, slack_fits a))
+      made_wider (wanted_made w (width_in t) (compound_made f pushed op (Numbers k) a b (base_made f pushed lo Registers a) (expr_made f (behind_open f pushed (Numbers k) a) (lo + uses None a) Value b))) (omega (arith, some_nodes a, some_nodes b, slack_fits a))
   node_made f pushed lo w t (assign_step op a b) =
       let operands : Operands = PointerFirst (target_bytes f (bare a)) in
-      made_wider (wanted_made w (width_in t) (compound_made f pushed op operands a b (base_made f pushed lo a) (expr_made f (behind_open f pushed operands a) (lo + uses None a) Value b))) (omega (arith, some_nodes a, some_nodes b, slack_fits a))
+      made_wider (wanted_made w (width_in t) (compound_made f pushed op operands a b (base_made f pushed lo Registers a) (expr_made f (behind_open f pushed operands a) (lo + uses None a) Value b))) (omega (arith, some_nodes a, some_nodes b, slack_fits a))
   node_made f pushed lo w t (step how e) =
       let place : Place = place_of f pushed e in
       let access : Access = access_of (types_of f.parts.types) e in
-      made_wider (wanted_made w (width_in t) (stepped_made (base_made f pushed (lo + 1) e) (step_quiet how (target_bytes f (bare e)) (amount_of f how (bare e)) place access lo (leads_inner [] lo (1 + uses None e) lo (omega arith) (omega arith))))) (omega (arith, some_nodes e, access_fits 92 196 (types_of f.parts.types) e (omega arith) (omega arith), slack_fits e))
+      made_wider (wanted_made w (width_in t) (stepped_made (base_made f pushed (lo + 1) Registers e) (step_quiet how (target_bytes f (bare e)) (amount_of f how (bare e)) place access lo (leads_inner [] lo (1 + uses None e) lo (omega arith) (omega arith))))) (omega (arith, some_nodes e, access_fits 92 196 (types_of f.parts.types) e (omega arith) (omega arith), slack_fits e))
   node_made f pushed lo w t (copy a b) =
       made_wider (wanted_made w (width_in t) (made_append (expr_made f pushed lo Value a) (made_before (push_piece Ax) (made_behind (expr_made f (more pushed 2) (lo + uses None a) Value b) (copy_piece (type_bytes f (type_in t))))))) (omega (arith, some_nodes a, some_nodes b))
   node_made f pushed lo w t (call g es) =
       made_wider (wanted_made w (width_in t) (call_made f (named g) (outcome_of f (type_in t)) g es (expr_made f pushed lo Value g) (args_made f pushed lo (is_fast (bare g)) es) (args_made f (more pushed 2) (lo + uses None g) (is_fast (bare g)) es))) (omega (arith, some_nodes g))
   node_made f pushed lo w t (pack e) =
       let place : Place = place_of f pushed e in
-      made_wider (wanted_made w (width_in t) (made_behind (base_made f pushed lo e) (part_piece place (extent_by (type_bytes f (type_in t)))))) (omega (arith, some_nodes e))
+      made_wider (wanted_made w (width_in t) (made_behind (base_made f pushed lo Registers e) (part_piece place (extent_by (type_bytes f (type_in t)))))) (omega (arith, some_nodes e))
   node_made f pushed lo w t (spill i e) =
       made_wider (wanted_made w (width_in t) (made_behind (expr_made f pushed lo Value e) (spill_piece (object_code f pushed i) (extent_by (type_bytes f (type_in t))) (object_piece f pushed i)))) (omega (arith, some_nodes e))
   node_made f pushed lo w t further = leaf (node t further) (omega arith) refl (wanted_made w (width_in t) (made_piece (further_piece f pushed)))
 
-  pub base_made : (f : Framed) (pushed lo : ℕ) (e : Typed) → Made [] lo (uses None e) (room e) (base_code f pushed lo e)
-  base_made f pushed lo (node t (literal n)) = made_none
-  base_made f pushed lo (node t (object i)) = made_wider (target_made (object_place f pushed i) (made_piece (object_piece f pushed i))) (omega arith)
-  base_made f pushed lo (node t (deref e)) = made_wider (pointer_base_made f pushed lo e) (omega (arith, some_nodes e))
-  base_made f pushed lo (node t (member e m)) =
+  pub base_made : (f : Framed) (pushed lo : ℕ) (d : Destination) (e : Typed) → Made [] lo (uses None e) (room e + 4) (base_code f pushed lo d e)
+  base_made f pushed lo d (node t (literal n)) = made_none
+  base_made f pushed lo d (node t (object i)) = made_wider (target_made (object_place f pushed i) (made_piece (piece_append 34 4 _ _ (object_piece f pushed i) (arrived_piece d)))) (omega arith)
+  base_made f pushed lo d (node t (deref e)) = made_wider (pointer_base_made f pushed lo d e) (omega (arith, some_nodes e))
+  base_made f pushed lo d (node t (member e m)) =
       let n : ℕ = offset_at (types_of f.parts.types) (bare e) m in
-      either_made (has_base (place_of f pushed e) n) (made_wider (base_made f pushed lo e) (omega (arith, some_nodes e))) (made_wider (made_behind (expr_made f pushed lo Value e) (offset_piece n)) (omega (arith, some_nodes e)))
-  base_made f pushed lo (node t n) = node_made f pushed lo Value t n
+      either_made (has_base (place_of f pushed e) n) (made_wider (base_made f pushed lo d e) (omega (arith, some_nodes e))) (made_wider (made_behind (expr_made f pushed lo Value e) (piece_append 9 4 _ _ (offset_piece n) (arrived_piece d))) (omega (arith, some_nodes e)))
+  base_made f pushed lo d (node t n) = made_behind (node_made f pushed lo Value t n) (arrived_piece d)
 
-  pointer_base_made : (f : Framed) (pushed lo : ℕ) (e : Typed) → Made [] lo (uses None e) (room e) (pointer_base_code f pushed lo e)
-  pointer_base_made f pushed lo (node t (binary op a b)) =
+  pointer_base_made : (f : Framed) (pushed lo : ℕ) (d : Destination) (e : Typed) → Made [] lo (uses None e) (room e + 4) (pointer_base_code f pushed lo d e)
+  pointer_base_made f pushed lo d (node t (binary op a b)) =
       let operands : Operands = operands_of f (bare a) (bare b) in
       let place : Place = target_of f pushed a in
-      sum_made (sum_has_base place (added_bytes op operands (constant_in b))) (λ h. sum_uses f place op operands t a b h) (made_wider (pointer_base_made f pushed (lo + 1) a) (omega (arith, some_nodes a, some_nodes b))) (node_made f pushed lo Value t (binary op a b))
-  pointer_base_made f pushed lo (node t (address e)) = made_wider (base_made f pushed lo e) (omega (arith, some_nodes e))
-  pointer_base_made f pushed lo (node t (decay e)) = made_wider (base_made f pushed lo e) (omega (arith, some_nodes e))
-  pointer_base_made f pushed lo (node t n) = node_made f pushed lo Value t n
+      sum_made (sum_has_base place (added_bytes op operands (constant_in b))) (λ h. sum_uses f place op operands t a b h) (made_wider (pointer_base_made f pushed (lo + 1) d a) (omega (arith, some_nodes a, some_nodes b)))
+      (sum_base_made f pushed lo d t op a b (λ p l v. expr_made f p l v a) (λ p l v. expr_made f p l v b) (relation_of op) (node_made f pushed lo Value t (binary op a b)))
+  pointer_base_made f pushed lo d (node t (address e)) = made_wider (base_made f pushed lo d e) (omega (arith, some_nodes e))
+  pointer_base_made f pushed lo d (node t (decay e)) = made_wider (base_made f pushed lo d e) (omega (arith, some_nodes e))
+  pointer_base_made f pushed lo d (node t n) = made_behind (node_made f pushed lo Value t n) (arrived_piece d)
 
   args_made : (f : Framed) (pushed lo : ℕ) (fast : Bool) (es : Nodes) → Made [] lo (args_uses es) (128 * nodes_in es) (args_code f pushed lo fast es)
   args_made f pushed lo fast none = made_none

@@ -1,21 +1,18 @@
 -- Lines of bit-fields: their size, the form of each line, and what they leave waiting.
-use Rattle.std.proofs.Common.{◌≡◌, ℕ, ◌+◌, ◌-◌, ◌/◌, ◌%◌, ◌==◌, Bool, true, Option, Some, None, List, [], ◌∷◌, ◌++◌, refl, arith}
-use Rattle.c65_mach.specs.declared.rows.Op.TheVariants.{And, Asl, Lda, Ldy, Lsr, Ora, Ror, Sta, Stx}
+use Rattle.std.proofs.Common.{ℕ, ◌-◌, ◌/◌, ◌%◌, ◌==◌, List, [], ◌∷◌, refl, arith}
+use Rattle.c65_mach.specs.declared.rows.Op.TheVariants.{And, Asl, Lda, Ldy, Lsr, Ora, Ror, Sta}
 use Rattle.c65_mach.specs.declared.rows.Mode.TheVariants.{IndirectY}
 use Rattle.c65_code.specs.declared.line.Operand.TheVariants.{Zero}
-use Rattle.c65_code.specs.declared.line.Line.{Line}
 use Rattle.c65_genwide.specs.Lines.{value}
 use Rattle.c65_genload.specs.declared.places.Extent.TheVariants.{One, Two}
 use Rattle.c65_genload.specs.declared.places.Field.{Field}
 use Rattle.c65_genload.specs.declared.places.Place.{Place}
-use Rattle.c65_genload.specs.declared.places.Place.TheVariants as places
-use Rattle.c65_genload.specs.Words.{ptr1, zero_page}
 use Rattle.c65_genload.specs.Places.{byte_more, onward, settled}
 use Rattle.c65_genload.specs.Numbers.{first, second}
 use Rattle.c65_genload.specs.Fields.{is_in_byte, own_bits, is_unit}
 use Rattle.c65_genload.specs.Stores.{bytes_store, unit_set}
 use Rattle.c65_genchange.specs.declared.spots.Spot.{Spot}
-use Rattle.c65_genchange.specs.Spots.{spot_at, point_code, reach_code, again_code}
+use Rattle.c65_genchange.specs.Spots.{spot_at, reach_code, again_code}
 use Rattle.c65_genfield.specs.Bits.{own_bits_code}
 use Rattle.c65_genfield.specs.Setting.{own_word, set_word, clear_code, raise_code, byte_code, part_code, number_code, behind_code, byte_set, set_code}
 use Rattle.c65_gen_law_lines.proofs.Made.{Piece, piece_append, piece_wider, piece_if, piece_none}
@@ -65,12 +62,6 @@ part_still bits mask spot v = leaves_if (mask == 0) leaves_none (byte_still bits
 
 pub number_still : (place : Place) (g : Field) (n : ℕ) → Still (number_code place g n)
 number_still place g n v = leaves_then (part_still (first (set_word g n)) (first (own_word g)) (spot_at place 0) v) (part_still (second (set_word g n)) (second (own_word g)) (spot_at place 1) v)
-
-pub point_piece : (place : Place) → Piece 4 (point_code place)
-point_piece (places.Far at) = record { plain = refl; fit = refl; size = omega arith }
-point_piece (places.Bank b) = piece_none 4
-point_piece (places.Near at) = piece_none 4
-point_piece (places.Data s at) = piece_none 4
 
 -- ---- the value in A
 

@@ -5,6 +5,7 @@ pub mod StackPieces
 pub mod Quiet
 pub mod Directs
 pub mod Shifts
+pub mod Pointed
 pub mod Drops
 pub mod Forms
 pub mod Wants

@@ -57,7 +57,7 @@ use Rattle.c65_gendirect.specs.declared.bytes.OperandByte.TheVariants as operand
 use Rattle.c65_gendirect.specs.declared.through.Stored.{Stored}
 use Rattle.c65_gendirect.specs.declared.through.Stored.TheVariants as stores
 use Rattle.c65_gendirect.specs.Bytes.{op_of}
-use Rattle.c65_gendirect.specs.Through.{read_bytes_code, read_store_code, point_code, byte_through_code, word_through_code}
+use Rattle.c65_gendirect.specs.Through.{read_bytes_code, point_code, byte_through_code, word_through_code}
 use Rattle.c65_genexpr.specs.declared.operands.Operands.{Operands}
 use Rattle.c65_genexpr.specs.declared.operands.Operands.TheVariants.{Numbers, PointerFirst, PointerLast, Pointers}
 use Rattle.c65_genexpr.specs.declared.arguments.Passed.{Passed}
@@ -471,7 +471,7 @@ loaded_piece (operand.Near at) = record { plain = refl; fit = refl; size = omega
 loaded_piece (operand.Data s at) = record { plain = refl; fit = refl; size = omega arith }
 loaded_piece (operand.Zero at) = record { plain = refl; fit = refl; size = omega arith }
 
-read_bytes_piece : (at : ℕ) (stored : Stored) → Piece 18 (read_bytes_code at stored)
+pub read_bytes_piece : (at : ℕ) (stored : Stored) → Piece 18 (read_bytes_code at stored)
 read_bytes_piece at (stores.Single low) =
     let last : Piece 14 (value Ldy at ∷ by_y Sta ptr1 ∷ []) = record { plain = refl; fit = refl; size = omega arith } in
     piece_append 4 14 (op_of Lda low) _ (loaded_piece low) last
@@ -483,11 +483,6 @@ read_bytes_piece at (stores.Fixed low high) =
     let first : Piece 5 (value Ldy (byte_more at 1) ∷ by_y Sta ptr1 ∷ implied Tax ∷ []) = record { plain = refl; fit = refl; size = omega arith } in
     let last : Piece 5 (value Ldy at ∷ by_y Sta ptr1 ∷ []) = record { plain = refl; fit = refl; size = omega arith } in
     piece_append 4 14 (op_of Lda high) _ (loaded_piece high) (piece_append 5 9 (value Ldy (byte_more at 1) ∷ by_y Sta ptr1 ∷ implied Tax ∷ []) _ first (piece_append 4 5 (op_of Lda low) _ (loaded_piece low) last))
-
-pub read_store_piece : (at : ℕ) (stored : Stored) → Piece 22 (read_store_code at stored)
-read_store_piece at stored =
-    let to : Piece 4 (zero_page Sta ptr1 ∷ zero_page Stx (ptr1 + 1) ∷ []) = record { plain = refl; fit = refl; size = omega arith } in
-    piece_append 4 18 (zero_page Sta ptr1 ∷ zero_page Stx (ptr1 + 1) ∷ []) (read_bytes_code at stored) to (read_bytes_piece at stored)
 
 point_piece : (low high : OperandByte) → Piece 12 (point_code low high)
 point_piece low high =

@@ -27,6 +27,9 @@ use Rattle.c65_genwide.specs.Wide.{width_of}
 use Rattle.c65_genload.specs.declared.places.Place.{Place}
 use Rattle.c65_genload.specs.declared.places.Place.TheVariants as places
 use Rattle.c65_genload.specs.declared.places.Access.{Access}
+use Rattle.c65_genload.specs.declared.places.Access.TheVariants.{Whole, Part}
+use Rattle.c65_genload.specs.declared.places.Extent.{Extent}
+use Rattle.c65_genload.specs.declared.places.Extent.TheVariants.{One}
 use Rattle.c65_genload.specs.Words.{implied}
 use Rattle.c65_genload.specs.declared.places.Field.{Field}
 use Rattle.c65_genload.specs.Places.{extent_by, extent_of}
@@ -46,6 +49,8 @@ use Rattle.c65_genexpr.specs.declared.storing.Storing.{Storing}
 use Rattle.c65_genexpr.specs.declared.storing.Storing.TheVariants as storing
 use Rattle.c65_genexpr.specs.declared.wanted.Wanted.{Wanted}
 use Rattle.c65_genexpr.specs.declared.wanted.Wanted.TheVariants.{Value, Test}
+use Rattle.c65_genexpr.specs.declared.destination.Destination.{Destination}
+use Rattle.c65_genexpr.specs.declared.destination.Destination.TheVariants.{Registers}
 use Rattle.c65_genexpr.specs.declared.operands.Operands.{Operands}
 use Rattle.c65_genexpr.specs.declared.operands.Operands.TheVariants.{Numbers, PointerFirst}
 use Rattle.c65_genexpr.specs.declared.arguments.Passed.{Passed}
@@ -55,27 +60,29 @@ use Rattle.c65_genexpr.specs.Types.{kind_of, outcome_of, given_bytes, kind_in, b
 use Rattle.c65_genexpr.specs.Places.{more, has_base, added_bytes, sum_has_base, object_place, place_of, target_of, object_code, target_code}
 use Rattle.c65_genexpr.specs.Operands.{residue_of, constant_in, operands_of, computes, unary_code, same_truth, conversion_by}
 use Rattle.c65_genexpr.specs.Direct.{kept_at, own_bytes}
-use Rattle.c65_genexpr.specs.Wanted.{decided_code, wanted_by, handed, branch_code, wanted, aimed, sense, inner, truth_by, is_straight, way, way_labels, joined as both_joined}
+use Rattle.c65_genexpr.specs.Wanted.{decided_code, wanted_by, handed, branch_code, value_test_code, wanted, aimed, sense, inner, truth_by, is_straight, way, way_labels, joined as both_joined}
 use Rattle.c65_genexpr.specs.Held.{held_low, held_high}
 use Rattle.c65_genexpr.specs.Comparing.{relation_by, tested_by, comparing_of, low_code, below_side, comparison_by}
 use Rattle.c65_genexpr.specs.Operating.{operating_of, below_operand, operator_by}
-use Rattle.c65_genexpr.specs.Storing.{storing_of, below_value, assigned_by}
+use Rattle.c65_genexpr.specs.Destination.{arrived, destination_of, fetch_code as loaded_code}
+use Rattle.c65_genexpr.specs.Storing.{storing_of, below_value, base_for, assigned_by}
 use Rattle.c65_genexpr.specs.Steps.{amount_of}
 use Rattle.c65_genexpr.specs.Arguments.{is_fast, is_counted, stays, passed_size, passed_of, reads_of}
 use Rattle.c65_genexpr.specs.Arguments as arguments
 use Rattle.c65_genexpr.specs.Calls.{named, count_code, fetch_code, result_code, library_at, named_by, pointer_code, direct_code, ptr4_code}
 use Rattle.c65_genexpr.specs.Uses.{by_relation, uses}
 use Rattle.c65_genfield.specs.Bits.{byte_field}
-use Rattle.c65_genexpr.specs.Fields.{loaded_test}
+use Rattle.c65_genexpr.specs.Fields.{byte_test, number_test, loaded_test}
 use Rattle.c65_genexpr.specs.Code.{width_in, constant_code, tested_load, load_by, behind_open, compound, call_by, expr_code, node_code, base_code, pointer_base_code, args_code, operator_code, comparison_code}
 use Rattle.c65_gen_law_lines.specs.Stack.{bytes_in, Waiting, waiting_by, taken, left, waits, argument_bytes, passed, unless_named, calls_of, node_calls, args_calls}
 use Rattle.c65_gen_law_lines.specs.Laws.{ExpressionsKeepTheStack, CallsAreCounted}
 use Rattle.c65_gen_law_lines.proofs.Directs.{loaded_quiet, compare_quiet, compare_byte_quiet, zero_test_quiet, truth_quiet}
 use Rattle.c65_gen_law_lines.proofs.Drops.{IfRead, Unread, comparing_calls, Unstored, storing_calls, sum_calls, Unused, operating_calls}
 use Rattle.c65_gen_law_lines.proofs.Forms.{form_quiet, waiting_leaves, stacked_leaves, keep_quiet}
+use Rattle.c65_gen_law_lines.proofs.Pointed.{arrived_still, behind_pointer_still, fetch_still}
 use Rattle.c65_gen_law_lines.proofs.StepForms.{step_quiet}
 use Rattle.c65_gen_law_lines.proofs.FieldForms.{own_bits_still}
-use Rattle.c65_gen_law_lines.proofs.StackPieces.{keep_still, byte_behind_still, word_behind_still, waits_append, Leaves, leaves_then, leaves_none, leaves_if, Still, narrow_still, number_still, object_still, further_still, offset_still, conversion_still, push_leaves, argument_leaves, test_still, holding, hold_leaves, bytes_still, load_still, stored_leaves, read_store_still, byte_through_still, word_through_still, copy_leaves, spill_still, unary_still, between_leaves, behind_leaves, open_leaves, close_leaves}
+use Rattle.c65_gen_law_lines.proofs.StackPieces.{keep_still, byte_behind_still, word_behind_still, waits_append, Leaves, leaves_then, leaves_none, leaves_if, Still, narrow_still, number_still, object_still, further_still, offset_still, conversion_still, push_leaves, argument_leaves, test_still, holding, hold_leaves, bytes_still, load_still, stored_leaves, read_bytes_still, byte_through_still, word_through_still, copy_leaves, spill_still, unary_still, between_leaves, behind_leaves, open_leaves, close_leaves}
 
 -- lines lead from some values that wait to others by these calls
 pub record Does (cs : List (List ℕ)) (v : List ℕ) (a : List Line) (u : List ℕ) : Type 0 where
@@ -140,16 +147,27 @@ constant_leaves : (w : Wanted) (width : Width) (n : ℕ) (v : List ℕ) → Leav
 constant_leaves Value width n v = number_still width n v
 constant_leaves (Test to s) width n v = decided_leaves (not (n == 0)) s to v
 
+fetched_still : (place : Place) (kind : IntType) (s : Bool) (to : ℕ) → Still (loaded_code place (Whole kind) ++ value_test_code (width_of kind) s to)
+fetched_still place kind s to v = leaves_then (fetch_still place (Whole kind) v) (leaves_then (test_still (width_of kind) v) (record { to = λ calls. refl }))
+
+byte_still : (place : Place) (kind : IntType) (e : Extent) (s : Bool) (to : ℕ) → Still (byte_test place kind e s to)
+byte_still (places.Far at) kind One s to v = leaves_then (behind_pointer_still at One v) (record { to = λ calls. refl })
+byte_still place kind e s to v = fetched_still place kind s to v
+
+number_test_still : (place : Place) (access : Access) (s : Bool) (to : ℕ) → Still (number_test place access s to)
+number_test_still place (Whole kind) s to v = byte_still place kind (extent_of kind) s to v
+number_test_still place (Part field) s to v = leaves_then (load_still place (Part field) v) (leaves_then (test_still (width_of field.kind) v) (record { to = λ calls. refl }))
+
 test_still_by : (field : Option Field) (place : Place) (access : Access) (s : Bool) (to : ℕ) → Still (loaded_test field place access s to)
 test_still_by (Some g) place access s to v = leaves_then (own_bits_still place g v) (record { to = λ calls. refl })
-test_still_by None place access s to v = leaves_then (load_still place access v) (leaves_then (test_still (width_of (loads.type_in access)) v) (record { to = λ calls. refl }))
+test_still_by None place access s to v = number_test_still place access s to v
 
 tested_does : {cs : List (List ℕ)} {v : List ℕ} {base test : List Line} (d : Option Direct) (kind : IntType) (s : Bool) (to : ℕ) → Does cs v base v → Leaves v test v → Does cs v (tested_load d kind s to base test) v
 tested_does {v = v} (Some d) kind s to db still = does_behind db ((zero_test_quiet {ok = λ l. true} (own_bytes d (extent_of kind)) s to refl).still v)
 tested_does None kind s to db still = does_behind db still
 
 load_does : {cs : List (List ℕ)} {v : List ℕ} {a : List Line} (w : Wanted) (place : Place) (access : Access) → Does cs v a v → Does cs v (load_by w place access a) v
-load_does {v = v} Value place access d = does_behind d (load_still place access v)
+load_does {v = v} Value place access d = does_behind d (fetch_still place access v)
 load_does {v = v} (Test to s) place access d = tested_does (kept_at place access) (loads.type_in access) s to d (test_still_by (byte_field access) place access s to v)
 
 converted_does : {cs : List (List ℕ)} {v : List ℕ} {a : List Line} (w : Wanted) (same : Bool) (to : Ty) (from : IntType) → Does cs v a v → Does cs v (conversion_by w same to from a) v
@@ -194,18 +212,18 @@ comparison_does comparing.Stacked op operands right s to own quiet da db v =
     let last : Leaves v (implied Tay ∷ branch_code s to) v = record { to = λ calls. refl } in
     does_behind (does_then (da v) (does_before (between_leaves operands v) (does_behind (db (waiting (width_of (computes operands)) ∷ v)) (leaves_then (behind_leaves op operands right v) last)))) (one_label own)
 
-operator_does : {cs ds : List (List ℕ)} {a b : List Line} (how : Operating) (op : BinaryOp) (operands : Operands) (right : IntType) (own : ℕ) → Unused how (cs ≡ []) (ds ≡ []) → Doing cs a → Doing ds b → Doing (cs ++ ds) (operator_by how op operands right own a b)
-operator_does (operating.Left form) op operands right own small da db v = left_alone small.1 (does_behind (da v) ((form_quiet {ok = λ l. true} form own refl small.0).still v))
-operator_does (operating.Right form) op operands right own small da db v = right_alone small.1 (does_behind (db v) ((form_quiet {ok = λ l. true} form own refl small.0).still v))
-operator_does (operating.Held form) op operands right own small da db v =
-    does_then (da v) (does_before ((keep_quiet {ok = λ l. true}).still v) (does_behind (db v) ((form_quiet {ok = λ l. true} form own refl small).still v)))
-operator_does operating.Stacked op operands right own small da db v =
-    does_behind (does_then (da v) (does_before (waiting_leaves operands v) (does_behind (db (waiting (width_of (computes operands)) ∷ v)) (stacked_leaves op operands right v)))) (one_label own)
+operator_does : {cs ds : List (List ℕ)} {a b : List Line} (d : Destination) (how : Operating) (op : BinaryOp) (operands : Operands) (right : IntType) (own : ℕ) → Unused how (cs ≡ []) (ds ≡ []) → Doing cs a → Doing ds b → Doing (cs ++ ds) (operator_by d how op operands right own a b)
+operator_does d (operating.Left form) op operands right own small da db v = left_alone small.1 (does_behind (da v) ((form_quiet {ok = λ l. true} d form own refl small.0).still v))
+operator_does d (operating.Right form) op operands right own small da db v = right_alone small.1 (does_behind (db v) ((form_quiet {ok = λ l. true} d form own refl small.0).still v))
+operator_does d (operating.Held form) op operands right own small da db v =
+    does_then (da v) (does_before ((keep_quiet {ok = λ l. true}).still v) (does_behind (db v) ((form_quiet {ok = λ l. true} d form own refl small).still v)))
+operator_does d operating.Stacked op operands right own small da db v =
+    does_then (da v) (does_before (waiting_leaves operands v) (does_behind (db (waiting (width_of (computes operands)) ∷ v)) (leaves_then (stacked_leaves op operands right v) (leaves_then (one_label own) (arrived_still d v)))))
 
 -- ---- assignments
 
 assigned_does : {cs ds : List (List ℕ)} {a b : List Line} (how : Storing) (place : Place) (access : Access) → Unstored how (cs ≡ []) (ds ≡ []) → Doing cs a → Doing ds b → Doing (cs ++ ds) (assigned_by how place access a b)
-assigned_does (storing.Left at stored) place access unread da db v = left_alone unread (does_behind (da v) (leaves_then (read_store_still at stored v) (narrow_still (loads.type_in access) v)))
+assigned_does (storing.Left at stored) place access unread da db v = left_alone unread (does_behind (da v) (leaves_then (read_bytes_still at stored v) (narrow_still (loads.type_in access) v)))
 assigned_does (storing.RightByte at low high) place access unread da db v = right_alone unread (does_behind (db v) (leaves_then (byte_through_still at low high v) (narrow_still (loads.type_in access) v)))
 assigned_does (storing.RightWord at low high) place access unread da db v = right_alone unread (does_behind (db v) (word_through_still at low high v))
 assigned_does (storing.HeldByte at) place access unread da db v = does_then (da v) (does_before (keep_still v) (does_behind (db v) (leaves_then (byte_behind_still at v) (narrow_still (loads.type_in access) v))))
@@ -293,11 +311,11 @@ abbrev Acts : Framed → Typed → Type 0
 Acts f e = (pushed lo : ℕ) (w : Wanted) → Doing (calls_of f e) (expr_code f pushed lo w e)
 
 binary_does : (f : Framed) (pushed lo : ℕ) (w : Wanted) (t : QTy) (op : BinaryOp) (a b : Typed) → Acts f a → Acts f b → (r : Option Relation)
-    → Doing (calls_of f a ++ calls_of f b) (by_relation r (wanted w (width_in t) (operator_code f pushed lo op a b)) (λ q. truth_by w lo (comparison_code f pushed (inner w lo) (aimed w lo) (sense w) op q a b)))
+    → Doing (calls_of f a ++ calls_of f b) (by_relation r (wanted w (width_in t) (operator_code f pushed lo Registers op a b)) (λ q. truth_by w lo (comparison_code f pushed (inner w lo) (aimed w lo) (sense w) op q a b)))
 binary_does f pushed lo w t op a b da db None v =
     let operands : Operands = operands_of f (bare a) (bare b) in
     let how : Operating = operating_of f pushed op operands a b in
-    wanted_does w (width_in t) (operator_does how op operands (kind_in b) lo (operating_calls f pushed op operands a b) (da pushed (lo + 1) Value) (db (below_operand how pushed (waiting (width_of (computes operands)))) (lo + 1 + uses None a) Value) v)
+    wanted_does w (width_in t) (operator_does Registers how op operands (kind_in b) lo (operating_calls f pushed op operands a b) (da pushed (lo + 1) Value) (db (below_operand how pushed (waiting (width_of (computes operands)))) (lo + 1 + uses None a) Value) v)
 binary_does f pushed lo w t op a b da db (Some r) v =
     let operands : Operands = operands_of f (bare a) (bare b) in
     let q : Relation = relation_by (sense w) r in
@@ -306,6 +324,14 @@ binary_does f pushed lo w t op a b da db (Some r) v =
     let own : ℕ = inner w lo in
     truth_does w lo (comparison_does how op operands (kind_in b) (sense w) to own (comparing_calls f pushed q (computes operands) a b)
     (da pushed (own + 1) (wanted_by (tested_by q b) to)) (db (below_side how pushed (waiting (width_of (computes operands)))) (own + 1 + uses (tested_by q b) a) (wanted_by (tested_by q a) to)) v)
+
+sum_base_does : (f : Framed) (pushed lo : ℕ) (d : Destination) (t : QTy) (op : BinaryOp) (a b : Typed) → Acts f a → Acts f b → (r : Option Relation) → Doing (calls_of f a ++ calls_of f b) (node_code f pushed lo Value t (binary op a b))
+    → Doing (calls_of f a ++ calls_of f b) (by_relation r (operator_code f pushed lo d op a b) (λ q. node_code f pushed lo Value t (binary op a b) ++ arrived d))
+sum_base_does f pushed lo d t op a b da db None whole v =
+    let operands : Operands = operands_of f (bare a) (bare b) in
+    let how : Operating = operating_of f pushed op operands a b in
+    operator_does d how op operands (kind_in b) lo (operating_calls f pushed op operands a b) (da pushed (lo + 1) Value) (db (below_operand how pushed (waiting (width_of (computes operands)))) (lo + 1 + uses None a) Value) v
+sum_base_does f pushed lo d t op a b da db (Some r) whole v = does_behind (whole v) (arrived_still d v)
 
 unary_does : {cs : List (List ℕ)} {v : List ℕ} {a : List Line} (w : Wanted) (t : QTy) (op : UnaryOp) (width : Width) → Does cs v a v → Does cs v (wanted w (width_in t) (a ++ unary_code op width)) v
 unary_does {v = v} w t op width d = wanted_does w (width_in t) (does_behind d (unary_still op width v))
@@ -322,7 +348,9 @@ mutual
   node_does f pushed lo w t (func i) v = wanted_does w (width_in t) (record { to = λ rest. refl })
   node_does f pushed lo w t (deref e) v = wanted_does w (width_in t) (expr_does f pushed lo Value e v)
   node_does f pushed lo w t (member e m) v = wanted_does w (width_in t) (does_behind (expr_does f pushed lo Value e v) (offset_still (offset_at (types_of f.parts.types) (bare e) m) v))
-  node_does f pushed lo w t (load e) v = load_does w (place_of f pushed e) (access_of (types_of f.parts.types) e) (base_does f pushed lo e v)
+  node_does f pushed lo w t (load e) v =
+      let access : Access = access_of (types_of f.parts.types) e in
+      load_does w (place_of f pushed e) access (base_does f pushed lo (destination_of access) e v)
   node_does f pushed lo w t (address e) v = wanted_does w (width_in t) (expr_does f pushed lo Value e v)
   node_does f pushed lo w t (decay e) v = wanted_does w (width_in t) (expr_does f pushed lo Value e v)
   node_does f pushed lo w t (convert e) v =
@@ -353,40 +381,41 @@ mutual
   node_does f pushed lo w t (assign a b) v =
       let place : Place = place_of f pushed a in
       let how : Storing = storing_of f pushed a b in
-      wanted_does w (width_in t) (assigned_does how place (access_of (types_of f.parts.types) a) (storing_calls f pushed a b) (base_does f pushed lo a) (expr_does f (below_value how pushed place) (lo + uses None a) Value b) v)
+      wanted_does w (width_in t) (assigned_does how place (access_of (types_of f.parts.types) a) (storing_calls f pushed a b) (base_does f pushed lo (base_for how) a) (expr_does f (below_value how pushed place) (lo + uses None a) Value b) v)
   node_does f pushed lo w t (assign_op op k a b) v =
-      wanted_does w (width_in t) (compound_does f pushed op (Numbers k) a b v (base_does f pushed lo a v) (expr_does f (behind_open f pushed (Numbers k) a) (lo + uses None a) Value b (waiting (width_of k) ∷ holding (place_of f pushed a) v)))
+      wanted_does w (width_in t) (compound_does f pushed op (Numbers k) a b v (base_does f pushed lo Registers a v) (expr_does f (behind_open f pushed (Numbers k) a) (lo + uses None a) Value b (waiting (width_of k) ∷ holding (place_of f pushed a) v)))
   node_does f pushed lo w t (assign_step op a b) v =
       let operands : Operands = PointerFirst (target_bytes f (bare a)) in
-      wanted_does w (width_in t) (compound_does f pushed op operands a b v (base_does f pushed lo a v) (expr_does f (behind_open f pushed operands a) (lo + uses None a) Value b (2 ∷ holding (place_of f pushed a) v)))
+      wanted_does w (width_in t) (compound_does f pushed op operands a b v (base_does f pushed lo Registers a v) (expr_does f (behind_open f pushed operands a) (lo + uses None a) Value b (2 ∷ holding (place_of f pushed a) v)))
   node_does f pushed lo w t (step how e) v =
       let place : Place = place_of f pushed e in
-      wanted_does w (width_in t) (does_behind (base_does f pushed (lo + 1) e v) ((step_quiet {ok = λ l. true} how (target_bytes f (bare e)) (amount_of f how (bare e)) place (access_of (types_of f.parts.types) e) lo refl).still v))
+      wanted_does w (width_in t) (does_behind (base_does f pushed (lo + 1) Registers e v) ((step_quiet {ok = λ l. true} how (target_bytes f (bare e)) (amount_of f how (bare e)) place (access_of (types_of f.parts.types) e) lo refl).still v))
   node_does f pushed lo w t (copy a b) v =
       wanted_does w (width_in t) (does_then (expr_does f pushed lo Value a v) (does_before (push_leaves Ax v) (does_behind (expr_does f (more pushed 2) (lo + uses None a) Value b (2 ∷ v)) (copy_leaves (type_bytes f (type_in t)) v))))
   node_does f pushed lo w t (call g es) v =
       wanted_does w (width_in t) (call_does f (named g) (outcome_of f (type_in t)) g es (expr_does f pushed lo Value g v) (args_does f pushed lo (is_fast (bare g)) es v) (args_does f (more pushed 2) (lo + uses None g) (is_fast (bare g)) es (2 ∷ v)))
-  node_does f pushed lo w t (pack e) v = wanted_does w (width_in t) (does_behind (base_does f pushed lo e v) (bytes_still (place_of f pushed e) (extent_by (type_bytes f (type_in t))) v))
+  node_does f pushed lo w t (pack e) v = wanted_does w (width_in t) (does_behind (base_does f pushed lo Registers e v) (bytes_still (place_of f pushed e) (extent_by (type_bytes f (type_in t))) v))
   node_does f pushed lo w t (spill i e) v = wanted_does w (width_in t) (does_behind (expr_does f pushed lo Value e v) (spill_still (object_code f pushed i) (extent_by (type_bytes f (type_in t))) (object_still f pushed i) v))
   node_does f pushed lo w t further v = wanted_does w (width_in t) (does_leaves (further_still f pushed v))
 
-  pub base_does : (f : Framed) (pushed lo : ℕ) (e : Typed) (v : List ℕ) → Does (calls_of f e) v (base_code f pushed lo e) v
-  base_does f pushed lo (node t (literal n)) v = does_none
-  base_does f pushed lo (node t (object i)) v = target_does (object_place f pushed i) (does_leaves (object_still f pushed i v))
-  base_does f pushed lo (node t (deref e)) v = pointer_base_does f pushed lo e v
-  base_does f pushed lo (node t (member e m)) v =
+  pub base_does : (f : Framed) (pushed lo : ℕ) (d : Destination) (e : Typed) (v : List ℕ) → Does (calls_of f e) v (base_code f pushed lo d e) v
+  base_does f pushed lo d (node t (literal n)) v = does_none
+  base_does f pushed lo d (node t (object i)) v = target_does (object_place f pushed i) (does_leaves (leaves_then (object_still f pushed i v) (arrived_still d v)))
+  base_does f pushed lo d (node t (deref e)) v = pointer_base_does f pushed lo d e v
+  base_does f pushed lo d (node t (member e m)) v =
       let n : ℕ = offset_at (types_of f.parts.types) (bare e) m in
-      either_does (has_base (place_of f pushed e) n) (base_does f pushed lo e v) (does_behind (expr_does f pushed lo Value e v) (offset_still n v))
-  base_does f pushed lo (node t n) v = node_does f pushed lo Value t n v
+      either_does (has_base (place_of f pushed e) n) (base_does f pushed lo d e v) (does_behind (expr_does f pushed lo Value e v) (leaves_then (offset_still n v) (arrived_still d v)))
+  base_does f pushed lo d (node t n) v = does_behind (node_does f pushed lo Value t n v) (arrived_still d v)
 
-  pointer_base_does : (f : Framed) (pushed lo : ℕ) (e : Typed) (v : List ℕ) → Does (calls_of f e) v (pointer_base_code f pushed lo e) v
-  pointer_base_does f pushed lo (node t (binary op a b)) v =
+  pointer_base_does : (f : Framed) (pushed lo : ℕ) (d : Destination) (e : Typed) (v : List ℕ) → Does (calls_of f e) v (pointer_base_code f pushed lo d e) v
+  pointer_base_does f pushed lo d (node t (binary op a b)) v =
       let operands : Operands = operands_of f (bare a) (bare b) in
       let place : Place = target_of f pushed a in
-      sum_does (sum_has_base place (added_bytes op operands (constant_in b))) lo (λ h. sum_calls f place op operands b h) (pointer_base_does f pushed (lo + 1) a v) (node_does f pushed lo Value t (binary op a b) v)
-  pointer_base_does f pushed lo (node t (address e)) v = base_does f pushed lo e v
-  pointer_base_does f pushed lo (node t (decay e)) v = base_does f pushed lo e v
-  pointer_base_does f pushed lo (node t n) v = node_does f pushed lo Value t n v
+      sum_does (sum_has_base place (added_bytes op operands (constant_in b))) lo (λ h. sum_calls f place op operands b h) (pointer_base_does f pushed (lo + 1) d a v)
+      (sum_base_does f pushed lo d t op a b (λ p l u. expr_does f p l u a) (λ p l u. expr_does f p l u b) (relation_of op) (node_does f pushed lo Value t (binary op a b)) v)
+  pointer_base_does f pushed lo d (node t (address e)) v = base_does f pushed lo d e v
+  pointer_base_does f pushed lo d (node t (decay e)) v = base_does f pushed lo d e v
+  pointer_base_does f pushed lo d (node t n) v = does_behind (node_does f pushed lo Value t n v) (arrived_still d v)
 
   args_does : (f : Framed) (pushed lo : ℕ) (fast : Bool) (es : Nodes) (v : List ℕ) → Does (args_calls f es) v (args_code f pushed lo fast es) (passed f fast es ++ v)
   args_does f pushed lo fast none v = does_none

@@ -50,7 +50,7 @@ use Rattle.c65_gendirect.specs.declared.bytes.OperandByte.TheVariants as operand
 use Rattle.c65_gendirect.specs.declared.through.Stored.{Stored}
 use Rattle.c65_gendirect.specs.declared.through.Stored.TheVariants as stores
 use Rattle.c65_gendirect.specs.Bytes.{op_of}
-use Rattle.c65_gendirect.specs.Through.{read_bytes_code, read_store_code, point_code, byte_through_code, word_through_code}
+use Rattle.c65_gendirect.specs.Through.{read_bytes_code, point_code, byte_through_code, word_through_code}
 use Rattle.c65_genexpr.specs.declared.operands.Operands.{Operands}
 use Rattle.c65_genexpr.specs.declared.operands.Operands.TheVariants.{Numbers, PointerFirst, PointerLast, Pointers}
 use Rattle.c65_genexpr.specs.Places.{more, soft_code, code_at, object_code, rest_code}
@@ -412,7 +412,7 @@ loaded_still (operand.Near at) v = record { to = λ calls. refl }
 loaded_still (operand.Data s at) v = record { to = λ calls. refl }
 loaded_still (operand.Zero at) v = record { to = λ calls. refl }
 
-read_bytes_still : (at : ℕ) (stored : Stored) → Still (read_bytes_code at stored)
+pub read_bytes_still : (at : ℕ) (stored : Stored) → Still (read_bytes_code at stored)
 read_bytes_still at (stores.Single low) v = leaves_then (loaded_still low v) (record { to = λ calls. refl })
 read_bytes_still at (stores.Word low high) v =
     let aside : Leaves v (implied Pha ∷ []) v = record { to = λ calls. refl } in
@@ -420,11 +420,6 @@ read_bytes_still at (stores.Word low high) v =
 read_bytes_still at (stores.Fixed low high) v =
     let first : Leaves v (value Ldy (byte_more at 1) ∷ by_y Sta ptr1 ∷ implied Tax ∷ []) v = record { to = λ calls. refl } in
     leaves_then (loaded_still high v) (leaves_then first (leaves_then (loaded_still low v) (record { to = λ calls. refl })))
-
-pub read_store_still : (at : ℕ) (stored : Stored) → Still (read_store_code at stored)
-read_store_still at stored v =
-    let to : Leaves v (zero_page Sta ptr1 ∷ zero_page Stx (ptr1 + 1) ∷ []) v = record { to = λ calls. refl } in
-    leaves_then to (read_bytes_still at stored v)
 
 point_still : (low high : OperandByte) → Still (point_code low high)
 point_still low high v =

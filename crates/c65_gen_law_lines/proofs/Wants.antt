@@ -20,7 +20,7 @@ use Rattle.c65_genload.specs.declared.places.Place.{Place}
 use Rattle.c65_genload.specs.declared.places.Access.{Access}
 use Rattle.c65_genload.specs.declared.places.Access.TheVariants.{Whole, Part}
 use Rattle.c65_genload.specs.Places.{extent_of}
-use Rattle.c65_genload.specs.Places as loads
+use Rattle.c65_genload.specs.declared.places.Place.TheVariants as places
 use Rattle.c65_genwide.specs.Wide.{width_of}
 use Rattle.c65_gendirect.specs.declared.bytes.OperandByte.{OperandByte}
 use Rattle.c65_gendirect.specs.declared.direct.Direct.{Direct}
@@ -32,6 +32,7 @@ use Rattle.c65_genexpr.specs.declared.comparing.Comparing.{Comparing}
 use Rattle.c65_genexpr.specs.declared.comparing.Comparing.TheVariants as comparing
 use Rattle.c65_genexpr.specs.declared.operating.Operating.{Operating}
 use Rattle.c65_genexpr.specs.declared.operating.Operating.TheVariants as operating
+use Rattle.c65_genexpr.specs.declared.destination.Destination.{Destination}
 use Rattle.c65_genexpr.specs.declared.operands.Operands.{Operands}
 use Rattle.c65_genexpr.specs.declared.wanted.Wanted.{Wanted}
 use Rattle.c65_genexpr.specs.declared.wanted.Wanted.TheVariants.{Value, Test}
@@ -39,16 +40,18 @@ use Rattle.c65_genexpr.specs.Types.{kind_of}
 use Rattle.c65_genexpr.specs.Direct.{sides_of, listed, alone, own_bytes}
 use Rattle.c65_genexpr.specs.Held.{held_low, held_high}
 use Rattle.c65_genexpr.specs.Operands.{conversion_by}
-use Rattle.c65_genexpr.specs.Wanted.{decided_code, sense_of, handed, by_sense, wanted, aimed, truth_labels, inner, truth_by, way, way_labels, joined}
+use Rattle.c65_genexpr.specs.Wanted.{decided_code, sense_of, handed, by_sense, value_test_code, wanted, aimed, truth_labels, inner, truth_by, way, way_labels, joined}
 use Rattle.c65_genexpr.specs.Comparing.{low_code, comparison_by}
 use Rattle.c65_genexpr.specs.Operating.{operator_by}
-use Rattle.c65_genexpr.specs.Fields.{loaded_test}
+use Rattle.c65_genexpr.specs.Destination.{fetch_code}
+use Rattle.c65_genexpr.specs.Fields.{byte_test, number_test, loaded_test}
 use Rattle.c65_genexpr.specs.Code.{constant_code, tested_load}
 use Rattle.c65_gen_law_lines.specs.Labels.{among, aims, may_lead}
 use Rattle.c65_gen_law_lines.proofs.Made.{is_early, among_split, among_one, among_none, Piece, piece_none, Stretch, Made, once_at, stretch_then, stretch_piece, stretch_label, stretch_branch, stretch_jump, stretch_wider, stretch_as, stretch_made, made_stretch, leads_inner, leads_within, leads_outer, made_piece, made_behind, made_wider, made_as, made_none, nowhere}
 use Rattle.c65_gen_law_lines.proofs.Pieces.{number_piece, conversion_piece, test_piece, between_piece, behind_piece, by_access, load_piece}
 use Rattle.c65_gen_law_lines.proofs.Directs.{loaded_quiet, compare_quiet, compare_byte_quiet, zero_test_quiet, truth_quiet}
 use Rattle.c65_gen_law_lines.proofs.FieldForms.{own_bits_piece}
+use Rattle.c65_gen_law_lines.proofs.Pointed.{arrived_piece, behind_pointer_piece, fetch_piece}
 use Rattle.c65_gen_law_lines.proofs.Drops.{IfRead, Unread, Unused}
 use Rattle.c65_gen_law_lines.proofs.Forms.{keep_quiet, stacked_sizes, form_quiet, waiting_part, stacked_part}
 
@@ -100,11 +103,23 @@ test_sizes : (access : Access) → 27 ≤ by_access 19 36 access + 13
 test_sizes (Whole kind) = omega arith
 test_sizes (Part g) = omega arith
 
+fetched_test : {ok : ℕ → Bool} (place : Place) (kind : IntType) (s : Bool) (to : ℕ) → ok to ≡ true → Stretch ok nowhere 32 (fetch_code place (Whole kind) ++ value_test_code (width_of kind) s to)
+fetched_test place kind s to passes =
+    stretch_as (λ l. refl) (stretch_then (stretch_piece (fetch_piece place (Whole kind))) (stretch_then (stretch_piece (test_piece (width_of kind))) (stretch_branch (by_sense s) to (sense_fits s) passes)))
+
+byte_part : {ok : ℕ → Bool} (place : Place) (kind : IntType) (e : Extent) (s : Bool) (to : ℕ) → ok to ≡ true → Stretch ok nowhere 32 (byte_test place kind e s to)
+byte_part (places.Far at) kind One s to passes = stretch_wider (stretch_as (λ l. refl) (stretch_then (stretch_piece (behind_pointer_piece at One)) (stretch_branch (by_sense s) to (sense_fits s) passes))) (omega arith)
+byte_part place kind e s to passes = fetched_test place kind s to passes
+
+number_part : {ok : ℕ → Bool} (place : Place) (access : Access) (s : Bool) (to : ℕ) → ok to ≡ true → Stretch ok nowhere (by_access 19 36 access + 13) (number_test place access s to)
+number_part place (Whole kind) s to passes = stretch_wider (byte_part place kind (extent_of kind) s to passes) (omega arith)
+number_part place (Part field) s to passes =
+    stretch_wider (stretch_as (λ l. refl) (stretch_then (stretch_piece (load_piece place (Part field))) (stretch_then (stretch_piece (test_piece (width_of field.kind))) (stretch_branch (by_sense s) to (sense_fits s) passes)))) (omega arith)
+
 pub test_part : {ok : ℕ → Bool} (field : Option Field) (place : Place) (access : Access) (s : Bool) (to : ℕ) → ok to ≡ true → Stretch ok nowhere (by_access 19 36 access + 13) (loaded_test field place access s to)
 test_part (Some g) place access s to passes =
     stretch_wider (stretch_as (λ l. refl) (stretch_then (stretch_piece (own_bits_piece place g)) (stretch_branch (by_sense s) to (sense_fits s) passes))) (test_sizes access)
-test_part None place access s to passes =
-    stretch_wider (stretch_as (λ l. refl) (stretch_then (stretch_piece (load_piece place access)) (stretch_then (stretch_piece (test_piece (width_of (loads.type_in access)))) (stretch_branch (by_sense s) to (sense_fits s) passes)))) (omega arith)
+test_part None place access s to passes = number_part place access s to passes
 
 -- the test of a value that is read where it lies, or of one that is loaded
 pub tested_made : {lo n i j k : ℕ} {base test : List Line} (d : Option Direct) (kind : IntType) (s : Bool) (to : ℕ) → j + 23 ≤ k → j + i ≤ k → Made [] lo n j base → Stretch (may_lead lo n (to ∷ [])) nowhere i test → Made (to ∷ []) lo n k (tested_load d kind s to base test)
@@ -195,20 +210,21 @@ comparison_made {na = na} {nb = nb} how op operands right s to own none ma mb =
 
 -- ---- operators that give a number or a pointer
 
-operator_part : {ok : ℕ → Bool} {j k : ℕ} {a b : List Line} (na nb : ℕ) (how : Operating) (op : BinaryOp) (operands : Operands) (right : IntType) (own la lb : ℕ) → Unused how (na ≡ 0) (nb ≡ 0) → ok own ≡ true
-    → Stretch ok (among la na) j a → Stretch ok (among lb nb) k b → Stretch ok (both_sides own la na lb nb) (j + k + 113) (operator_by how op operands right own a b)
-operator_part na nb (operating.Left form) op operands right own la lb small mine p q = stretch_wider (stretch_as (λ l. omega (arith, none_among lb nb l small.1)) (stretch_then p (form_quiet form own mine small.0).part)) (omega arith)
-operator_part na nb (operating.Right form) op operands right own la lb small mine p q = stretch_wider (stretch_as (λ l. omega (arith, none_among la na l small.1)) (stretch_then q (form_quiet form own mine small.0).part)) (omega arith)
-operator_part na nb (operating.Held form) op operands right own la lb small mine p q =
-    stretch_wider (stretch_as (λ l. omega arith) (stretch_then p (stretch_then keep_quiet.part (stretch_then q (form_quiet form own mine small).part)))) (omega arith)
-operator_part na nb operating.Stacked op operands right own la lb small mine p q =
-    stretch_wider (stretch_as (λ l. omega arith) (stretch_then (stretch_then p (stretch_then (waiting_part operands) (stretch_then q (stacked_part op operands right)))) (stretch_label own))) (omega (arith, stacked_sizes operands))
+operator_part : {ok : ℕ → Bool} {j k : ℕ} {a b : List Line} (d : Destination) (na nb : ℕ) (how : Operating) (op : BinaryOp) (operands : Operands) (right : IntType) (own la lb : ℕ) → Unused how (na ≡ 0) (nb ≡ 0) → ok own ≡ true
+    → Stretch ok (among la na) j a → Stretch ok (among lb nb) k b → Stretch ok (both_sides own la na lb nb) (j + k + 117) (operator_by d how op operands right own a b)
+operator_part d na nb (operating.Left form) op operands right own la lb small mine p q = stretch_wider (stretch_as (λ l. omega (arith, none_among lb nb l small.1)) (stretch_then p (form_quiet d form own mine small.0).part)) (omega arith)
+operator_part d na nb (operating.Right form) op operands right own la lb small mine p q = stretch_wider (stretch_as (λ l. omega (arith, none_among la na l small.1)) (stretch_then q (form_quiet d form own mine small.0).part)) (omega arith)
+operator_part d na nb (operating.Held form) op operands right own la lb small mine p q =
+    stretch_wider (stretch_as (λ l. omega arith) (stretch_then p (stretch_then keep_quiet.part (stretch_then q (form_quiet d form own mine small).part)))) (omega arith)
+operator_part d na nb operating.Stacked op operands right own la lb small mine p q =
+    stretch_wider (stretch_as (λ l. omega arith)
+    (stretch_then p (stretch_then (waiting_part operands) (stretch_then q (stretch_then (stacked_part op operands right) (stretch_then (stretch_label own) (stretch_piece (arrived_piece d)))))))) (omega (arith, stacked_sizes operands))
 
-pub operator_made : {na nb j k : ℕ} {a b : List Line} (how : Operating) (op : BinaryOp) (operands : Operands) (right : IntType) (own : ℕ) → Unused how (na ≡ 0) (nb ≡ 0)
-    → Made [] (own + 1) na j a → Made [] (own + 1 + na) nb k b → Made [] own (1 + (na + nb)) (j + k + 113) (operator_by how op operands right own a b)
-operator_made {na = na} {nb = nb} how op operands right own small ma mb =
+pub operator_made : {na nb j k : ℕ} {a b : List Line} (d : Destination) (how : Operating) (op : BinaryOp) (operands : Operands) (right : IntType) (own : ℕ) → Unused how (na ≡ 0) (nb ≡ 0)
+    → Made [] (own + 1) na j a → Made [] (own + 1 + na) nb k b → Made [] own (1 + (na + nb)) (j + k + 117) (operator_by d how op operands right own a b)
+operator_made {na = na} {nb = nb} d how op operands right own small ma mb =
     let n : ℕ = 1 + (na + nb) in
-    made_stretch (operator_part na nb how op operands right own (own + 1) (own + 1 + na) small (leads_inner [] own n own (omega arith) (omega arith))
+    made_stretch (operator_part d na nb how op operands right own (own + 1) (own + 1 + na) small (leads_inner [] own n own (omega arith) (omega arith))
     (stretch_made ma (leads_within [] (own + 1) na own n (omega arith) (omega arith)) refl) (stretch_made mb (leads_within [] (own + 1 + na) nb own n (omega arith) (omega arith)) refl))
     (own_and_sides own na nb)
 

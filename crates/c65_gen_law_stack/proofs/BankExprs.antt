@@ -31,6 +31,8 @@ use Rattle.c65_gendirect.specs.declared.compare.Sides.TheVariants.{Word}
 use Rattle.c65_gendirect.specs.declared.relation.Relation.{Relation}
 use Rattle.c65_gendirect.specs.Compare.{relation_of}
 use Rattle.c65_genshift.specs.Shifts.{labelled}
+use Rattle.c65_genexpr.specs.declared.destination.Destination.{Destination}
+use Rattle.c65_genexpr.specs.declared.destination.Destination.TheVariants.{Registers}
 use Rattle.c65_genexpr.specs.declared.operands.Operands.{Operands}
 use Rattle.c65_genexpr.specs.declared.operands.Operands.TheVariants.{Numbers, PointerFirst, PointerLast, Pointers}
 use Rattle.c65_genexpr.specs.declared.operating.Operating.{Operating}
@@ -52,7 +54,8 @@ use Rattle.c65_genexpr.specs.Direct.{kept_at, own_bytes}
 use Rattle.c65_genexpr.specs.Comparing.{relation_by, tested_by, comparing_of, on, low_code, below_side, comparison_by}
 use Rattle.c65_genexpr.specs.Held.{held_low, held_high}
 use Rattle.c65_genexpr.specs.Operating.{operating_of, waiting_code, stacked_code, below_operand, operator_by}
-use Rattle.c65_genexpr.specs.Storing.{storing_of, below_value, assigned_by}
+use Rattle.c65_genexpr.specs.Destination.{destination_of}
+use Rattle.c65_genexpr.specs.Storing.{storing_of, below_value, base_for, assigned_by}
 use Rattle.c65_genexpr.specs.Steps.{amount_of}
 use Rattle.c65_genexpr.specs.Arguments.{is_fast, is_counted, stays, passed_size, passed_of, argument_bytes}
 use Rattle.c65_genexpr.specs.Calls.{named}
@@ -65,7 +68,7 @@ use Rattle.c65_gen_law_stack.proofs.EvenShifts.{elements_even}
 use Rattle.c65_gen_law_stack.proofs.EvenDirects.{byte_even, compare_even, compare_byte_even, zero_test_even, truth_even}
 use Rattle.c65_gen_law_stack.proofs.EvenForms.{loaded_test_even, value_test_even, routine_test_even, constant_even, form_even, keep_even}
 use Rattle.c65_gen_law_stack.proofs.StepClears.{step_clear}
-use Rattle.c65_gen_law_stack.proofs.BankPieces.{narrow_clear, label_clear, byte_behind_clear, word_behind_clear, read_store_clear, byte_through_clear, word_through_clear, Clear, clear_then, clear_if, clear_none, IsOff, symbol_clear, offset_clear, object_clear, further_clear, conversion_clear, push_clear, argument_clear, hold_clear, bytes_clear, load_clear, store_clear, copy_clear, spill_clear, unary_clear, wide_clear, between_clear, behind_clear, open_clear, close_clear, named_clear, direct_clear, pointer_clear}
+use Rattle.c65_gen_law_stack.proofs.BankPieces.{narrow_clear, label_clear, byte_behind_clear, word_behind_clear, read_bytes_clear, byte_through_clear, word_through_clear, Clear, clear_then, clear_if, clear_none, IsOff, symbol_clear, offset_clear, object_clear, further_clear, conversion_clear, push_clear, argument_clear, hold_clear, bytes_clear, arrived_clear, fetch_clear, store_clear, copy_clear, spill_clear, unary_clear, wide_clear, between_clear, behind_clear, open_clear, close_clear, named_clear, direct_clear, pointer_clear}
 
 -- no home of a frame is in regbank
 abbrev pub IsBankless : Framed → Type 0
@@ -134,7 +137,7 @@ tested_clear (Some d) kind s to cb c = clear_then cb (zero_test_even {X = One to
 tested_clear None kind s to cb c = clear_then cb c
 
 load_by_clear : (w : Wanted) (place : Place) (access : Access) {code : List Line} → Clear code → Clear (load_by w place access code)
-load_by_clear Value place access c = clear_then c (load_clear place access)
+load_by_clear Value place access c = clear_then c (fetch_clear place access)
 load_by_clear (Test to s) place access c = tested_clear (kept_at place access) (type_at access) s to c (loaded_test_even {X = One to} (byte_field access) place access s to refl).clear
 
 conversion_by_clear : (w : Wanted) (same : Bool) (t : Ty) (from : IntType) {code : List Line} → Clear code → Clear (conversion_by w same t from code)
@@ -157,11 +160,11 @@ stacked_clear op (PointerFirst size) right = clear_then (elements_even {X = No} 
 stacked_clear op (PointerLast size) right = behind_clear op (PointerLast size) right
 stacked_clear op (Pointers size) right = behind_clear op (Pointers size) right
 
-operator_clear : {a b : List Line} (how : Operating) (op : BinaryOp) (operands : Operands) (right : IntType) (label : ℕ) → Clear a → Clear b → Clear (operator_by how op operands right label a b)
-operator_clear (operating.Left form) op operands right label ca cb = clear_then ca (form_even {X = No} form label).clear
-operator_clear (operating.Right form) op operands right label ca cb = clear_then cb (form_even {X = No} form label).clear
-operator_clear (operating.Held form) op operands right label ca cb = clear_then ca (clear_then (keep_even {X = No}).clear (clear_then cb (form_even {X = No} form label).clear))
-operator_clear operating.Stacked op operands right label ca cb = labelled_clear label (clear_then ca (clear_then (waiting_clear operands) (clear_then cb (stacked_clear op operands right))))
+operator_clear : {a b : List Line} (d : Destination) (how : Operating) (op : BinaryOp) (operands : Operands) (right : IntType) (label : ℕ) → Clear a → Clear b → Clear (operator_by d how op operands right label a b)
+operator_clear d (operating.Left form) op operands right label ca cb = clear_then ca (form_even {X = No} d form label).clear
+operator_clear d (operating.Right form) op operands right label ca cb = clear_then cb (form_even {X = No} d form label).clear
+operator_clear d (operating.Held form) op operands right label ca cb = clear_then ca (clear_then (keep_even {X = No}).clear (clear_then cb (form_even {X = No} d form label).clear))
+operator_clear d operating.Stacked op operands right label ca cb = clear_then ca (clear_then (waiting_clear operands) (clear_then cb (clear_then (stacked_clear op operands right) (clear_then (label_clear label) (arrived_clear d)))))
 
 side_clear : {a b : List Line} (side : Side) → Clear a → Clear b → Clear (on side a b)
 side_clear Left ca cb = ca
@@ -197,7 +200,7 @@ call_clear f None given g none cc ca cb = clear_then cc (direct_clear (is_counte
 call_clear f None given g (some e es) cc ca cb = clear_then cc (clear_then (push_clear Ax) (clear_then cb (pointer_clear (is_counted (bare g)) (passed_of f (is_fast (bare g)) (some e es)) given)))
 
 assigned_clear : {a b : List Line} (how : Storing) (place : Place) (access : Access) → IsOff place → Clear a → Clear b → Clear (assigned_by how place access a b)
-assigned_clear (storing.Left at stored) place access off ca cb = clear_then ca (clear_then (read_store_clear at stored) (narrow_clear (type_at access)))
+assigned_clear (storing.Left at stored) place access off ca cb = clear_then ca (clear_then (read_bytes_clear at stored) (narrow_clear (type_at access)))
 assigned_clear (storing.RightByte at low high) place access off ca cb = clear_then cb (clear_then (byte_through_clear at low high) (narrow_clear (type_at access)))
 assigned_clear (storing.RightWord at low high) place access off ca cb = clear_then cb (word_through_clear at low high)
 assigned_clear (storing.HeldByte at) place access off ca cb = clear_then ca (clear_then (keep_even {X = No}).clear (clear_then cb (clear_then (byte_behind_clear at) (narrow_clear (type_at access)))))
@@ -219,7 +222,9 @@ mutual
   node_clear f pushed lo w t (func i) k = wanted_clear w (width_in t) (symbol_clear (function_symbol (numbers_of f.parts) i) 0)
   node_clear f pushed lo w t (deref e) k = wanted_clear w (width_in t) (expr_clear f pushed lo Value e k)
   node_clear f pushed lo w t (member e m) k = wanted_clear w (width_in t) (clear_then (expr_clear f pushed lo Value e k) (offset_clear (offset_at (types_of f.parts.types) (bare e) m)))
-  node_clear f pushed lo w t (load e) k = load_by_clear w (place_of f pushed e) (access_of (types_of f.parts.types) e) (base_clear f pushed lo e k)
+  node_clear f pushed lo w t (load e) k =
+      let access : Access = access_of (types_of f.parts.types) e in
+      load_by_clear w (place_of f pushed e) access (base_clear f pushed lo (destination_of access) e k)
   node_clear f pushed lo w t (address e) k = wanted_clear w (width_in t) (expr_clear f pushed lo Value e k)
   node_clear f pushed lo w t (decay e) k = wanted_clear w (width_in t) (expr_clear f pushed lo Value e k)
   node_clear f pushed lo w t (convert e) k =
@@ -232,7 +237,7 @@ mutual
       let bytes : ℕ = waiting (width_of (computes operands)) in
       let operator : Operating = operating_of f pushed op operands a b in
       relation_clear (relation_of op)
-      (wanted_clear w (width_in t) (operator_clear operator op operands (kind_in b) lo (expr_clear f pushed (lo + 1) Value a k) (expr_clear f (below_operand operator pushed bytes) (lo + 1 + uses None a) Value b k)))
+      (wanted_clear w (width_in t) (operator_clear Registers operator op operands (kind_in b) lo (expr_clear f pushed (lo + 1) Value a k) (expr_clear f (below_operand operator pushed bytes) (lo + 1 + uses None a) Value b k)))
       (λ r.
       let q : Relation = relation_by (sense w) r in
       let how : Comparing = comparing_of f pushed q (computes operands) a b in
@@ -256,36 +261,41 @@ mutual
   node_clear f pushed lo w t (assign a b) k =
       let place : Place = place_of f pushed a in
       let how : Storing = storing_of f pushed a b in
-      wanted_clear w (width_in t) (assigned_clear how place (access_of (types_of f.parts.types) a) (place_off f pushed a k) (base_clear f pushed lo a k) (expr_clear f (below_value how pushed place) (lo + uses None a) Value b k))
-  node_clear f pushed lo w t (assign_op op kind a b) k = wanted_clear w (width_in t) (compound_clear f pushed op (Numbers kind) a b k (base_clear f pushed lo a k) (expr_clear f (behind_open f pushed (Numbers kind) a) (lo + uses None a) Value b k))
+      wanted_clear w (width_in t) (assigned_clear how place (access_of (types_of f.parts.types) a) (place_off f pushed a k) (base_clear f pushed lo (base_for how) a k) (expr_clear f (below_value how pushed place) (lo + uses None a) Value b k))
+  node_clear f pushed lo w t (assign_op op kind a b) k = wanted_clear w (width_in t) (compound_clear f pushed op (Numbers kind) a b k (base_clear f pushed lo Registers a k) (expr_clear f (behind_open f pushed (Numbers kind) a) (lo + uses None a) Value b k))
   node_clear f pushed lo w t (assign_step op a b) k =
       let operands : Operands = PointerFirst (target_bytes f (bare a)) in
-      wanted_clear w (width_in t) (compound_clear f pushed op operands a b k (base_clear f pushed lo a k) (expr_clear f (behind_open f pushed operands a) (lo + uses None a) Value b k))
+      wanted_clear w (width_in t) (compound_clear f pushed op operands a b k (base_clear f pushed lo Registers a k) (expr_clear f (behind_open f pushed operands a) (lo + uses None a) Value b k))
   node_clear f pushed lo w t (step how e) k =
       let place : Place = place_of f pushed e in
-      wanted_clear w (width_in t) (clear_then (base_clear f pushed (lo + 1) e k) (step_clear how (target_bytes f (bare e)) (amount_of f how (bare e)) place (access_of (types_of f.parts.types) e) lo (place_off f pushed e k)))
+      wanted_clear w (width_in t) (clear_then (base_clear f pushed (lo + 1) Registers e k) (step_clear how (target_bytes f (bare e)) (amount_of f how (bare e)) place (access_of (types_of f.parts.types) e) lo (place_off f pushed e k)))
   node_clear f pushed lo w t (copy a b) k = wanted_clear w (width_in t) (clear_then (expr_clear f pushed lo Value a k) (clear_then (push_clear Ax) (clear_then (expr_clear f (more pushed 2) (lo + uses None a) Value b k) (copy_clear (type_bytes f (type_in t))))))
   node_clear f pushed lo w t (call g es) k =
       wanted_clear w (width_in t) (call_clear f (named g) (outcome_of f (type_in t)) g es (expr_clear f pushed lo Value g k) (args_clear f pushed lo (is_fast (bare g)) es k) (args_clear f (more pushed 2) (lo + uses None g) (is_fast (bare g)) es k))
-  node_clear f pushed lo w t (pack e) k = wanted_clear w (width_in t) (clear_then (base_clear f pushed lo e k) (bytes_clear (place_of f pushed e) (extent_by (type_bytes f (type_in t)))))
+  node_clear f pushed lo w t (pack e) k = wanted_clear w (width_in t) (clear_then (base_clear f pushed lo Registers e k) (bytes_clear (place_of f pushed e) (extent_by (type_bytes f (type_in t)))))
   node_clear f pushed lo w t (spill i e) k = wanted_clear w (width_in t) (clear_then (expr_clear f pushed lo Value e k) (spill_clear (object_code f pushed i) (extent_by (type_bytes f (type_in t))) (object_clear f pushed i)))
   node_clear f pushed lo w t further k = wanted_clear w (width_in t) (further_clear f pushed)
 
-  pub base_clear : (f : Framed) (pushed lo : ℕ) (e : Typed) → IsBankless f → Clear (base_code f pushed lo e)
-  base_clear f pushed lo (node t (literal n)) k = clear_none
-  base_clear f pushed lo (node t (object i)) k = target_clear (object_place f pushed i) (object_clear f pushed i)
-  base_clear f pushed lo (node t (deref e)) k = pointer_base_clear f pushed lo e k
-  base_clear f pushed lo (node t (member e m)) k =
+  pub base_clear : (f : Framed) (pushed lo : ℕ) (d : Destination) (e : Typed) → IsBankless f → Clear (base_code f pushed lo d e)
+  base_clear f pushed lo d (node t (literal n)) k = clear_none
+  base_clear f pushed lo d (node t (object i)) k = target_clear (object_place f pushed i) (clear_then (object_clear f pushed i) (arrived_clear d))
+  base_clear f pushed lo d (node t (deref e)) k = pointer_base_clear f pushed lo d e k
+  base_clear f pushed lo d (node t (member e m)) k =
       let n : ℕ = offset_at (types_of f.parts.types) (bare e) m in
-      clear_if (has_base (place_of f pushed e) n) (base_clear f pushed lo e k) (clear_then (expr_clear f pushed lo Value e k) (offset_clear n))
-  base_clear f pushed lo (node t n) k = node_clear f pushed lo Value t n k
+      clear_if (has_base (place_of f pushed e) n) (base_clear f pushed lo d e k) (clear_then (expr_clear f pushed lo Value e k) (clear_then (offset_clear n) (arrived_clear d)))
+  base_clear f pushed lo d (node t n) k = clear_then (node_clear f pushed lo Value t n k) (arrived_clear d)
 
-  pointer_base_clear : (f : Framed) (pushed lo : ℕ) (e : Typed) → IsBankless f → Clear (pointer_base_code f pushed lo e)
-  pointer_base_clear f pushed lo (node t (binary op a b)) k =
-      clear_if (sum_has_base (target_of f pushed a) (added_bytes op (operands_of f (bare a) (bare b)) (constant_in b))) (clear_then (label_clear lo) (pointer_base_clear f pushed (lo + 1) a k)) (node_clear f pushed lo Value t (binary op a b) k)
-  pointer_base_clear f pushed lo (node t (address e)) k = base_clear f pushed lo e k
-  pointer_base_clear f pushed lo (node t (decay e)) k = base_clear f pushed lo e k
-  pointer_base_clear f pushed lo (node t n) k = node_clear f pushed lo Value t n k
+  pointer_base_clear : (f : Framed) (pushed lo : ℕ) (d : Destination) (e : Typed) → IsBankless f → Clear (pointer_base_code f pushed lo d e)
+  pointer_base_clear f pushed lo d (node t (binary op a b)) k =
+      let operands : Operands = operands_of f (bare a) (bare b) in
+      let operator : Operating = operating_of f pushed op operands a b in
+      clear_if (sum_has_base (target_of f pushed a) (added_bytes op operands (constant_in b))) (clear_then (label_clear lo) (pointer_base_clear f pushed (lo + 1) d a k))
+      (relation_clear (relation_of op)
+      (operator_clear d operator op operands (kind_in b) lo (expr_clear f pushed (lo + 1) Value a k) (expr_clear f (below_operand operator pushed (waiting (width_of (computes operands)))) (lo + 1 + uses None a) Value b k))
+      (λ r. clear_then (node_clear f pushed lo Value t (binary op a b) k) (arrived_clear d)))
+  pointer_base_clear f pushed lo d (node t (address e)) k = base_clear f pushed lo d e k
+  pointer_base_clear f pushed lo d (node t (decay e)) k = base_clear f pushed lo d e k
+  pointer_base_clear f pushed lo d (node t n) k = clear_then (node_clear f pushed lo Value t n k) (arrived_clear d)
 
   args_clear : (f : Framed) (pushed lo : ℕ) (fast : Bool) (es : Nodes) → IsBankless f → Clear (args_code f pushed lo fast es)
   args_clear f pushed lo fast none k = clear_none

@@ -23,7 +23,7 @@ use Rattle.c65_code.specs.declared.line.Operand.{Operand}
 use Rattle.c65_code.specs.declared.line.Operand.TheVariants.{Zero, At}
 use Rattle.c65_code.specs.declared.line.Line.{Line}
 use Rattle.c65_code.specs.declared.line.Line.TheVariants.{Label, Call, Do}
-use Rattle.c65_code.specs.declared.line.Callee.TheVariants.{Function, Pointer}
+use Rattle.c65_code.specs.declared.line.Callee.TheVariants as callees
 use Rattle.c65_code.specs.declared.routine.Count.TheVariants.{Two as two_bytes}
 use Rattle.c65_code.specs.declared.routine.Routine.TheVariants.{PushA, PushAx, PushEax, LdAi, LdEaxi, Tos, Unary, IncSp, Library as library_routine}
 use Rattle.c65_code.specs.declared.routine.UnaryRoutine.TheVariants.{Shl1}
@@ -51,7 +51,7 @@ use Rattle.c65_genload.specs.Places.{type_in, byte_more, extent_of, settled, onw
 use Rattle.c65_genload.specs.Numbers.{first, number_code, add_word_code, add_by_width, add_code, mask_code, by_code, shift_code, scale_code, is_divisor, divide_code}
 use Rattle.c65_genload.specs.Conversions.{widen_code, convert_code, convert_to, push_code, test_code}
 use Rattle.c65_genload.specs.Addresses.{symbol_code, address_code, above_code, raised_code, offset_code}
-use Rattle.c65_genload.specs.Fields.{ones, others, is_in_byte, own_bits, down_code, up_code, is_topmost, cut_code, spread_code, byte_value_code, once, rounds, both_down_code, is_astride, astride_code, wide_value_code, extract_code, lowest_code, is_unit}
+use Rattle.c65_genload.specs.Fields.{ones, others, is_in_byte, own_bits, down_code, up_code, is_topmost, cut_code, spread_code, byte_value_code, once, rounds, is_astride, astride_code, wide_value_code, extract_code, lowest_code, is_unit}
 use Rattle.c65_genload.specs.Loads.{hold_code, bytes_code, field_load, load_code}
 use Rattle.c65_genfield.specs.Bits.{own_bits_code}
 use Rattle.c65_genload.specs.Stores.{bytes_store, after_store, under_code, unit_set, unit_store, popped_code, merged_code, bits_store, byte_store, field_store, store_code, copy_code}
@@ -60,7 +60,11 @@ use Rattle.c65_gendirect.specs.declared.bytes.OperandByte.TheVariants as operand
 use Rattle.c65_gendirect.specs.declared.through.Stored.{Stored}
 use Rattle.c65_gendirect.specs.declared.through.Stored.TheVariants as stores
 use Rattle.c65_gendirect.specs.Bytes.{op_of}
-use Rattle.c65_gendirect.specs.Through.{read_bytes_code, read_store_code, point_code, byte_through_code, word_through_code}
+use Rattle.c65_gendirect.specs.Through.{read_bytes_code, point_code, byte_through_code, word_through_code}
+use Rattle.c65_gendirect.specs.Pointed.{behind_pointer_code}
+use Rattle.c65_genexpr.specs.declared.destination.Destination.{Destination}
+use Rattle.c65_genexpr.specs.declared.destination.Destination.TheVariants.{Registers, Pointer}
+use Rattle.c65_genexpr.specs.Destination.{arrived, destination_by, pointed_code, fetch_by, fetch_code as loaded_code}
 use Rattle.c65_genexpr.specs.declared.operands.Operands.{Operands}
 use Rattle.c65_genexpr.specs.declared.operands.Operands.TheVariants.{Numbers, PointerFirst, PointerLast, Pointers}
 use Rattle.c65_genexpr.specs.declared.arguments.Passed.{Passed}
@@ -296,6 +300,30 @@ pub load_clear : (place : Place) (access : Access) → Clear (load_code place ac
 load_clear place (Whole kind) = clear_then (bytes_clear place (extent_of kind)) (narrow_clear kind)
 load_clear place (Part field) = field_load_clear place field
 
+pub arrived_clear : (d : Destination) → Clear (arrived d)
+arrived_clear Registers = clear_none
+arrived_clear Pointer = record { all = refl }
+
+pub behind_pointer_clear : (at : ℕ) (e : Extent) → Clear (behind_pointer_code at e)
+behind_pointer_clear at One = record { all = refl }
+behind_pointer_clear at Two = record { all = refl }
+behind_pointer_clear at Three = record { all = refl }
+behind_pointer_clear at Four = record { all = refl }
+
+pointed_clear : (place : Place) (kind : IntType) → Clear (pointed_code place kind)
+pointed_clear (places.Far at) kind = clear_then (behind_pointer_clear at (extent_of kind)) (narrow_clear kind)
+pointed_clear (places.Bank b) kind = load_clear (places.Bank b) (Whole kind)
+pointed_clear (places.Near at) kind = load_clear (places.Near at) (Whole kind)
+pointed_clear (places.Data s at) kind = load_clear (places.Data s at) (Whole kind)
+
+fetch_by_clear : (d : Destination) (place : Place) (kind : IntType) → Clear (fetch_by d place kind)
+fetch_by_clear Registers place kind = load_clear place (Whole kind)
+fetch_by_clear Pointer place kind = pointed_clear place kind
+
+pub fetch_clear : (place : Place) (access : Access) → Clear (loaded_code place access)
+fetch_clear place (Whole kind) = fetch_by_clear (destination_by (extent_of kind)) place kind
+fetch_clear place (Part field) = load_clear place (Part field)
+
 pub bytes_store_clear : (place : Place) (e : Extent) → IsOff place → Clear (bytes_store place e)
 bytes_store_clear (places.Bank b) e off = absurd off
 bytes_store_clear (places.Near at) One off = record { all = refl }
@@ -398,7 +426,7 @@ loaded_clear (operand.Near at) = record { all = refl }
 loaded_clear (operand.Data s at) = record { all = refl }
 loaded_clear (operand.Zero at) = record { all = refl }
 
-read_bytes_clear : (at : ℕ) (stored : Stored) → Clear (read_bytes_code at stored)
+pub read_bytes_clear : (at : ℕ) (stored : Stored) → Clear (read_bytes_code at stored)
 read_bytes_clear at (stores.Single low) = clear_then (loaded_clear low) (record { all = refl })
 read_bytes_clear at (stores.Word low high) =
     let aside : Clear (implied Pha ∷ []) = record { all = refl } in
@@ -406,11 +434,6 @@ read_bytes_clear at (stores.Word low high) =
 read_bytes_clear at (stores.Fixed low high) =
     let first : Clear (value Ldy (byte_more at 1) ∷ by_y Sta ptr1 ∷ implied Tax ∷ []) = record { all = refl } in
     clear_then (loaded_clear high) (clear_then first (clear_then (loaded_clear low) (record { all = refl })))
-
-pub read_store_clear : (at : ℕ) (stored : Stored) → Clear (read_store_code at stored)
-read_store_clear at stored =
-    let to : Clear (zero_page Sta ptr1 ∷ zero_page Stx (ptr1 + 1) ∷ []) = record { all = refl } in
-    clear_then to (read_bytes_clear at stored)
 
 point_clear : (low high : OperandByte) → Clear (point_code low high)
 point_clear low high =
@@ -475,7 +498,7 @@ result_clear (Area bytes) = clear_none
 named_by_clear : (f : Framed) (i : ℕ) (l : Option Library) (counted : Bool) (p : Passed) (given : Outcome) → Clear (named_by f i l counted p given)
 named_by_clear f i (Some l) counted p given = let one : Clear (call (library_routine l) ∷ []) = record { all = refl } in clear_then (count_clear counted p) (clear_then one (result_clear given))
 named_by_clear f i None counted p given =
-    let one : Clear (Call (Function (function_symbol (numbers_of f.parts) i) (reads_of counted p) (registers (given_bytes given))) ∷ []) = record { all = refl } in
+    let one : Clear (Call (callees.Function (function_symbol (numbers_of f.parts) i) (reads_of counted p) (registers (given_bytes given))) ∷ []) = record { all = refl } in
     clear_then (count_clear counted p) (clear_then one (result_clear given))
 
 pub named_clear : (f : Framed) (i : ℕ) (counted : Bool) (p : Passed) (given : Outcome) → Clear (named_code f i counted p given)
@@ -483,13 +506,13 @@ named_clear f i counted p given = named_by_clear f i (library_at f i) counted p 
 
 pub direct_clear : (counted : Bool) (p : Passed) (given : Outcome) → Clear (direct_code counted p given)
 direct_clear counted p given =
-    let one : Clear (Call (Pointer (reads_of counted p) (registers (given_bytes given))) ∷ []) = record { all = refl } in
+    let one : Clear (Call (callees.Pointer (reads_of counted p) (registers (given_bytes given))) ∷ []) = record { all = refl } in
     let stored : Clear ptr4_code = record { all = refl } in
     clear_then stored (clear_then (count_clear counted p) (clear_then one (result_clear given)))
 
 pub pointer_clear : (counted : Bool) (p : Passed) (given : Outcome) → Clear (pointer_code counted p given)
 pointer_clear counted p given =
-    let one : Clear (Call (Pointer (reads_of counted p) (registers (given_bytes given))) ∷ []) = record { all = refl } in
+    let one : Clear (Call (callees.Pointer (reads_of counted p) (registers (given_bytes given))) ∷ []) = record { all = refl } in
     let two : Clear (call (IncSp two_bytes) ∷ []) = record { all = refl } in
     let fetch : Clear (fetch_code p) = record { all = refl } in
     clear_then fetch (clear_then (count_clear counted p) (clear_then one (clear_then two (result_clear given))))

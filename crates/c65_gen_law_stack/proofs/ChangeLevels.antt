@@ -1,5 +1,5 @@
 -- Where lines that change numbers where they lie lead, and what waits there.
-use Rattle.std.proofs.Common.{◌≡◌, ℕ, ◌+◌, ◌==◌, ◌⊎◌, inl, inr, Bool, true, false, List, [], ◌∷◌, ◌++◌, refl, sym, subst}
+use Rattle.std.proofs.Common.{◌≡◌, ℕ, ◌==◌, ◌⊎◌, inl, inr, Bool, true, false, List, [], ◌∷◌, ◌++◌, refl, sym, subst}
 use Rattle.std.specs.Prelude.{if◌then◌else◌}
 use Rattle.std.specs.List.{list_all}
 use Rattle.c65_base.specs.declared.operators.BinaryOp.{BinaryOp}
@@ -10,8 +10,6 @@ use Rattle.c65_mach.specs.declared.rows.Mode.TheVariants.{Relative}
 use Rattle.c65_code.specs.declared.line.Line.{Line}
 use Rattle.c65_code.specs.declared.line.Line.TheVariants.{Label}
 use Rattle.c65_genwide.specs.Lines.{value}
-use Rattle.c65_genload.specs.declared.places.Place.{Place}
-use Rattle.c65_genload.specs.declared.places.Place.TheVariants as places
 use Rattle.c65_genload.specs.Words.{tmp1, tmp2, implied, zero_page, branch}
 use Rattle.c65_genload.specs.Numbers.{first, second}
 use Rattle.c65_gendirect.specs.Words.{instruction, carry_code}
@@ -21,11 +19,11 @@ use Rattle.c65_genchange.specs.declared.spots.Target.{Target}
 use Rattle.c65_genchange.specs.declared.spots.Target.TheVariants.{Byte, Word}
 use Rattle.c65_genchange.specs.declared.changes.Change.{Change}
 use Rattle.c65_genchange.specs.declared.changes.Change.TheVariants.{Up, Down, Number, Operand}
-use Rattle.c65_genchange.specs.Spots.{point_code, reach_code, again_code}
+use Rattle.c65_genchange.specs.Spots.{reach_code, again_code}
 use Rattle.c65_genchange.specs.Changes.{up_code, down_code, byte_code, first_code, next_code, is_neutral, skip_code, low_code, high_code, number_code, aside_code, taken_code, less_code, joined_code, more_code, operand_code, change_code}
 use Rattle.c65_gen_law_lines.proofs.Made.{is_plain}
 use Rattle.c65_gen_law_lines.proofs.Leaves.{Still, leaves_none}
-use Rattle.c65_gen_law_stack.proofs.Levels.{Level, level_then, level_end, level_piece, level_label, level_leads, level_none, Closed}
+use Rattle.c65_gen_law_stack.proofs.Levels.{Level, level_then, level_end, level_piece, level_label, level_leads, Closed}
 use Rattle.c65_gen_law_stack.proofs.EvenLines.{Labels, No, One, Both, At}
 
 -- ---- lines that leave what waits
@@ -166,9 +164,3 @@ change_steady (Operand op target) label = steady_close label (inr refl) (steady_
 
 pub change_level : (change : Change) (label : ℕ) (v : List ℕ) → Closed [] v (change_code change label) v
 change_level change label v = steady_closed (change_steady change label) v
-
-pub point_level : (place : Place) (v : List ℕ) → Closed [] v (point_code place) v
-point_level (places.Far at) v = level_piece (record { to = λ calls. refl }) refl
-point_level (places.Bank b) v = level_none
-point_level (places.Near at) v = level_none
-point_level (places.Data s at) v = level_none

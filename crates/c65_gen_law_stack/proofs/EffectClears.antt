@@ -1,5 +1,5 @@
 -- The lines of expressions whose value is not used write nothing of regbank, where no object has its home there.
-use Rattle.std.proofs.Common.{ℕ, ◌+◌, Option, Some, None, List}
+use Rattle.std.proofs.Common.{ℕ, ◌+◌, Option, Some, None, List, ◌++◌}
 use Rattle.c65_base.specs.declared.operators.BinaryOp.{BinaryOp}
 use Rattle.c65_base.specs.declared.operators.StepKind.{StepKind}
 use Rattle.c65_base.specs.declared.operators.StepKind.TheVariants.{PreInc, PreDec, PostInc, PostDec}
@@ -8,9 +8,9 @@ use Rattle.c65_ctype.specs.Views.{types_of}
 use Rattle.c65_csem.specs.Trees.{Typed, node, Node, convert, comma, assign, assign_op, assign_step, step}
 use Rattle.c65_code.specs.declared.line.Line.{Line}
 use Rattle.c65_genframe.specs.Frames.{Framed}
-use Rattle.c65_genwide.specs.Lines.{value}
 use Rattle.c65_genload.specs.declared.places.Place.{Place}
 use Rattle.c65_genload.specs.declared.places.Access.{Access}
+use Rattle.c65_genexpr.specs.declared.destination.Destination.TheVariants.{Registers, Pointer}
 use Rattle.c65_genexpr.specs.declared.wanted.Wanted.TheVariants.{Value}
 use Rattle.c65_genexpr.specs.Types.{bare, access_of, target_bytes}
 use Rattle.c65_genexpr.specs.Places.{place_of}
@@ -20,37 +20,38 @@ use Rattle.c65_genchange.specs.declared.changes.Change.{Change}
 use Rattle.c65_geneffect.specs.declared.changing.Changing.{Changing}
 use Rattle.c65_geneffect.specs.declared.changing.Changing.TheVariants.{Fixed, Loaded, Otherwise}
 use Rattle.c65_geneffect.specs.declared.changing.Fill.{Fill}
+use Rattle.c65_genchange.specs.Changes.{change_code}
 use Rattle.c65_geneffect.specs.Changing.{in_front, stepping_of, changing_of, filling_of}
 use Rattle.c65_geneffect.specs.declared.setting.Setting.{Setting}
 use Rattle.c65_geneffect.specs.declared.setting.Setting.TheVariants as settings
-use Rattle.c65_geneffect.specs.Setting.{setting_of, below_value, set_by}
-use Rattle.c65_geneffect.specs.Effects.{fixed_code, stepped_by, changed_by, filled_or, set_code, changed_code, step_effect, effect_code, node_effect, effect_uses}
+use Rattle.c65_geneffect.specs.Setting.{setting_of, below_value, base_for, set_by}
+use Rattle.c65_geneffect.specs.Effects.{stepped_by, changed_by, filled_or, set_code, changed_code, step_effect, effect_code, node_effect, effect_uses}
 use Rattle.c65_gen_law_lines.proofs.EffectFacts.{target_in, OfStep, OfChanging, OfFill, stepping_target, changing_target, filling_target}
 use Rattle.c65_gen_law_stack.proofs.BankPieces.{Clear, label_clear, clear_then, IsOff, hold_clear}
 use Rattle.c65_gen_law_stack.proofs.EvenLines.{No}
 use Rattle.c65_gen_law_stack.proofs.EvenForms.{keep_even}
 use Rattle.c65_gen_law_stack.proofs.FieldClears.{number_clear, behind_clear, set_clear}
 use Rattle.c65_gen_law_stack.proofs.BankExprs.{IsBankless, place_off, expr_clear, base_clear}
-use Rattle.c65_gen_law_stack.proofs.ChangeClears.{IsOffTarget, change_clear, point_clear, fill_clear, target_off}
+use Rattle.c65_gen_law_stack.proofs.ChangeClears.{IsOffTarget, change_clear, fill_clear, target_off}
 
-fixed_clear : {base : List Line} (change : Change) (place : Place) (label : ℕ) → IsOffTarget (target_in change) → Clear base → Clear (fixed_code change place label base)
-fixed_clear change place label off c = clear_then c (clear_then (point_clear place) (change_clear change label off))
+fixed_clear : {base : List Line} (change : Change) (label : ℕ) → IsOffTarget (target_in change) → Clear base → Clear (base ++ change_code change label)
+fixed_clear change label off c = clear_then c (change_clear change label off)
 
-stepped_clear : {base whole : List Line} (form : Option Change) (place : Place) (label : ℕ) → OfStep IsOffTarget form → Clear base → Clear whole → Clear (stepped_by form place label base whole)
-stepped_clear (Some change) place label off cb cw = fixed_clear change place label off cb
-stepped_clear None place label off cb cw = cw
+stepped_clear : {base whole : List Line} (form : Option Change) (label : ℕ) → OfStep IsOffTarget form → Clear base → Clear whole → Clear (stepped_by form label base whole)
+stepped_clear (Some change) label off cb cw = fixed_clear change label off cb
+stepped_clear None label off cb cw = cw
 
-changed_clear : {left right whole : List Line} (how : Changing) (place : Place) (label : ℕ) → OfChanging IsOffTarget how → Clear left → Clear right → Clear whole → Clear (changed_by how place label left right whole)
-changed_clear (Fixed change) place label off cl cr cw = fixed_clear change place label off cl
-changed_clear (Loaded change) place label off cl cr cw = clear_then cl (clear_then cr (change_clear change label off))
-changed_clear Otherwise place label off cl cr cw = clear_then cw (label_clear label)
+changed_clear : {left right whole : List Line} (how : Changing) (label : ℕ) → OfChanging IsOffTarget how → Clear left → Clear right → Clear whole → Clear (changed_by how label left right whole)
+changed_clear (Fixed change) label off cl cr cw = fixed_clear change label off cl
+changed_clear (Loaded change) label off cl cr cw = clear_then cl (clear_then cr (change_clear change label off))
+changed_clear Otherwise label off cl cr cw = clear_then cw (label_clear label)
 
 filled_clear : {base whole : List Line} (fill : Option Fill) → OfFill IsOffTarget fill → Clear base → Clear whole → Clear (filled_or fill base whole)
 filled_clear (Some fill) off cb cw = clear_then cb (fill_clear fill.byte fill.low fill.high off.0 off.1)
 filled_clear None off cb cw = cw
 
 set_by_clear : {left right whole : List Line} (how : Setting) (place : Place) → IsOff place → Clear left → Clear right → Clear whole → Clear (set_by how place left right whole)
-set_by_clear (settings.Number g n) place off cl cr cw = clear_then cl (clear_then (point_clear place) (number_clear place g n off))
+set_by_clear (settings.Number g n) place off cl cr cw = clear_then cl (number_clear place g n off)
 set_by_clear (settings.Held g at) place off cl cr cw = clear_then cl (clear_then (keep_even {X = No}).clear (clear_then cr (behind_clear at g)))
 set_by_clear (settings.Loaded g) place off cl cr cw = clear_then cl (clear_then (hold_clear place) (clear_then cr (set_clear place g off)))
 set_by_clear settings.Otherwise place off cl cr cw = cw
@@ -59,19 +60,19 @@ field_clear : (f : Framed) (pushed lo : ℕ) (a b : Typed) (whole : List Line) �
 field_clear f pushed lo a b whole k cw =
     let place : Place = place_of f pushed a in
     let how : Setting = setting_of f pushed place (access_of (types_of f.parts.types) a) b in
-    set_by_clear how place (place_off f pushed a k) (base_clear f pushed lo a k) (expr_clear f (below_value how pushed place) (lo + uses None a) Value b k) cw
+    set_by_clear how place (place_off f pushed a k) (base_clear f pushed lo (base_for how) a k) (expr_clear f (below_value how pushed place) (lo + uses None a) Value b k) cw
 
 step_clear : (f : Framed) (pushed lo : ℕ) (t : QTy) (how : StepKind) (e : Typed) → IsBankless f → Clear (node_code f pushed lo Value t (step (in_front how) e)) → Clear (step_effect f pushed lo how e)
 step_clear f pushed lo t how e k whole =
     let place : Place = place_of f pushed e in
     let access : Access = access_of (types_of f.parts.types) e in
-    stepped_clear (stepping_of how (target_bytes f (bare e)) place access) place lo (stepping_target IsOffTarget how (target_bytes f (bare e)) place access (target_off place access (place_off f pushed e k))) (base_clear f pushed (lo + 1) e k) whole
+    stepped_clear (stepping_of how (target_bytes f (bare e)) place access) lo (stepping_target IsOffTarget how (target_bytes f (bare e)) place access (target_off place access (place_off f pushed e k))) (base_clear f pushed (lo + 1) Pointer e k) whole
 
 op_clear : (f : Framed) (pushed lo : ℕ) (op : BinaryOp) (size : ℕ) (a b : Typed) (whole : List Line) → IsBankless f → Clear whole → Clear (changed_code f pushed lo op size a b whole)
 op_clear f pushed lo op size a b whole k cw =
     let place : Place = place_of f pushed a in
     let access : Access = access_of (types_of f.parts.types) a in
-    changed_clear (changing_of op size place access b) place lo (changing_target IsOffTarget op size place access b (target_off place access (place_off f pushed a k))) (base_clear f pushed (lo + 1) a k) (expr_clear f pushed (lo + 1 + uses None a) Value b k) cw
+    changed_clear (changing_of op size place access b) lo (changing_target IsOffTarget op size place access b (target_off place access (place_off f pushed a k))) (base_clear f pushed (lo + 1) Pointer a k) (expr_clear f pushed (lo + 1 + uses None a) Value b k) cw
 
 mutual
   pub effect_clear : (f : Framed) (pushed lo : ℕ) (e : Typed) → IsBankless f → Clear (effect_code f pushed lo e)
@@ -83,7 +84,7 @@ mutual
   node_effect_clear f pushed lo t (assign a b) k =
       let place : Place = place_of f pushed a in
       let access : Access = access_of (types_of f.parts.types) a in
-      filled_clear (filling_of place access b) (filling_target IsOffTarget place access b (target_off place access (place_off f pushed a k))) (base_clear f pushed lo a k) (field_clear f pushed lo a b (node_code f pushed lo Value t (assign a b)) k (expr_clear f pushed lo Value (node t (assign a b)) k))
+      filled_clear (filling_of place access b) (filling_target IsOffTarget place access b (target_off place access (place_off f pushed a k))) (base_clear f pushed lo Registers a k) (field_clear f pushed lo a b (node_code f pushed lo Value t (assign a b)) k (expr_clear f pushed lo Value (node t (assign a b)) k))
   node_effect_clear f pushed lo t (assign_op op kind a b) k = op_clear f pushed lo op 1 a b (node_code f pushed (lo + 1) Value t (assign_op op kind a b)) k (expr_clear f pushed (lo + 1) Value (node t (assign_op op kind a b)) k)
   node_effect_clear f pushed lo t (assign_step op a b) k = op_clear f pushed lo op (target_bytes f (bare a)) a b (node_code f pushed (lo + 1) Value t (assign_step op a b)) k (expr_clear f pushed (lo + 1) Value (node t (assign_step op a b)) k)
   node_effect_clear f pushed lo t (step PreInc e) k = step_clear f pushed lo t PreInc e k (expr_clear f pushed lo Value (node t (step PreInc e)) k)

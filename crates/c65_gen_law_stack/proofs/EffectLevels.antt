@@ -8,9 +8,9 @@ use Rattle.c65_ctype.specs.Views.{types_of}
 use Rattle.c65_csem.specs.Trees.{Typed, node, Node, convert, comma, assign, assign_op, assign_step, step}
 use Rattle.c65_code.specs.declared.line.Line.{Line}
 use Rattle.c65_genframe.specs.Frames.{Framed}
-use Rattle.c65_genwide.specs.Lines.{value}
 use Rattle.c65_genload.specs.declared.places.Place.{Place}
 use Rattle.c65_genload.specs.declared.places.Access.{Access}
+use Rattle.c65_genexpr.specs.declared.destination.Destination.TheVariants.{Registers, Pointer}
 use Rattle.c65_genexpr.specs.declared.wanted.Wanted.TheVariants.{Value}
 use Rattle.c65_genexpr.specs.Types.{bare, access_of, target_bytes}
 use Rattle.c65_genexpr.specs.Places.{place_of}
@@ -20,12 +20,13 @@ use Rattle.c65_genchange.specs.declared.changes.Change.{Change}
 use Rattle.c65_geneffect.specs.declared.changing.Changing.{Changing}
 use Rattle.c65_geneffect.specs.declared.changing.Changing.TheVariants.{Fixed, Loaded, Otherwise}
 use Rattle.c65_geneffect.specs.declared.changing.Fill.{Fill}
+use Rattle.c65_genchange.specs.Changes.{change_code}
 use Rattle.c65_geneffect.specs.Changing.{in_front, stepping_of, changing_of, filling_of}
 use Rattle.c65_geneffect.specs.declared.setting.Setting.{Setting}
 use Rattle.c65_geneffect.specs.declared.setting.Setting.TheVariants as settings
-use Rattle.c65_geneffect.specs.Setting.{setting_of, below_value, set_by}
+use Rattle.c65_geneffect.specs.Setting.{setting_of, below_value, base_for, set_by}
 use Rattle.c65_genexpr.specs.Held.{ptr2}
-use Rattle.c65_geneffect.specs.Effects.{closed, fixed_code, stepped_by, changed_by, filled_or, set_code, changed_code, step_effect, effect_code, node_effect, effect_uses}
+use Rattle.c65_geneffect.specs.Effects.{closed, stepped_by, changed_by, filled_or, set_code, changed_code, step_effect, effect_code, node_effect, effect_uses}
 use Rattle.c65_gen_law_lines.specs.Stack.{calls_of, node_calls}
 use Rattle.c65_gen_law_lines.proofs.Drops.{constant_idle}
 use Rattle.c65_gen_law_lines.proofs.EffectForms.{fill_piece, fill_still}
@@ -35,26 +36,26 @@ use Rattle.c65_gen_law_lines.proofs.StackPieces.{holding, hold_leaves, keep_stil
 use Rattle.c65_gen_law_lines.proofs.FieldForms.{number_piece, number_still, behind_piece, behind_still, set_piece, set_leaves}
 use Rattle.c65_gen_law_stack.proofs.Levels.{level_piece, Closed, closed_then, closed_behind, closed_as}
 use Rattle.c65_gen_law_stack.proofs.ExprLevels.{left_calls, value_level, base_level}
-use Rattle.c65_gen_law_stack.proofs.ChangeLevels.{steady_label, steady_close, steady_closed, change_level, point_level}
+use Rattle.c65_gen_law_stack.proofs.ChangeLevels.{steady_label, steady_close, steady_closed, change_level}
 
 abbrev Lasting : List (List ℕ) → List Line → Type 0
 Lasting cs a = (v : List ℕ) → Closed cs v a v
 
-fixed_level : {cs : List (List ℕ)} {base : List Line} (change : Change) (place : Place) (label : ℕ) → Lasting cs base → Lasting cs (fixed_code change place label base)
-fixed_level change place label d v = closed_behind (d v) (closed_behind (point_level place v) (change_level change label v))
+fixed_level : {cs : List (List ℕ)} {base : List Line} (change : Change) (label : ℕ) → Lasting cs base → Lasting cs (base ++ change_code change label)
+fixed_level change label d v = closed_behind (d v) (change_level change label v)
 
 closed_level : {cs : List (List ℕ)} {a : List Line} (label : ℕ) → Lasting cs a → Lasting cs (closed label a)
 closed_level label d v = closed_behind (d v) (steady_closed (steady_close label refl (steady_label label)) v)
 
-stepped_level : {cs : List (List ℕ)} {base whole : List Line} (form : Option Change) (place : Place) (label : ℕ) → Lasting cs base → Lasting cs whole → Lasting cs (stepped_by form place label base whole)
-stepped_level (Some change) place label db dw = fixed_level change place label db
-stepped_level None place label db dw = dw
+stepped_level : {cs : List (List ℕ)} {base whole : List Line} (form : Option Change) (label : ℕ) → Lasting cs base → Lasting cs whole → Lasting cs (stepped_by form label base whole)
+stepped_level (Some change) label db dw = fixed_level change label db
+stepped_level None label db dw = dw
 
-changed_level : {cs ds : List (List ℕ)} {left right whole : List Line} (how : Changing) (place : Place) (label : ℕ) → Unneeded how (ds ≡ []) → Lasting cs left → Lasting ds right → Lasting (cs ++ ds) whole
-    → Lasting (cs ++ ds) (changed_by how place label left right whole)
-changed_level {cs = cs} {ds = ds} (Fixed change) place label unneeded dl dr dw v = closed_as (left_calls cs ds unneeded.1) (fixed_level change place label dl v)
-changed_level (Loaded change) place label unneeded dl dr dw v = closed_then (dl v) (closed_behind (dr v) (change_level change label v))
-changed_level Otherwise place label unneeded dl dr dw v = closed_level label dw v
+changed_level : {cs ds : List (List ℕ)} {left right whole : List Line} (how : Changing) (label : ℕ) → Unneeded how (ds ≡ []) → Lasting cs left → Lasting ds right → Lasting (cs ++ ds) whole
+    → Lasting (cs ++ ds) (changed_by how label left right whole)
+changed_level {cs = cs} {ds = ds} (Fixed change) label unneeded dl dr dw v = closed_as (left_calls cs ds unneeded.1) (fixed_level change label dl v)
+changed_level (Loaded change) label unneeded dl dr dw v = closed_then (dl v) (closed_behind (dr v) (change_level change label v))
+changed_level Otherwise label unneeded dl dr dw v = closed_level label dw v
 
 filled_level : {cs : List (List ℕ)} {base whole : List Line} (ds : List (List ℕ)) (fill : Option Fill) → Unfilled fill (ds ≡ []) → Lasting cs base → Lasting (cs ++ ds) whole → Lasting (cs ++ ds) (filled_or fill base whole)
 filled_level {cs = cs} ds (Some fill) unneeded db dw v =
@@ -63,7 +64,7 @@ filled_level ds None unneeded db dw v = dw v
 
 set_level : {cs ds : List (List ℕ)} {left right whole : List Line} (how : Setting) (place : Place) → Unset how (ds ≡ []) → Lasting cs left → Lasting ds right → Lasting (cs ++ ds) whole → Lasting (cs ++ ds) (set_by how place left right whole)
 set_level {cs = cs} {ds = ds} (settings.Number g n) place unset dl dr dw v =
-    closed_as (left_calls cs ds unset) (closed_behind (dl v) (closed_behind (point_level place v) (level_piece (number_still place g n v) (number_piece place g n).plain)))
+    closed_as (left_calls cs ds unset) (closed_behind (dl v) (level_piece (number_still place g n v) (number_piece place g n).plain))
 set_level (settings.Held g at) place unset dl dr dw v =
     closed_then (dl v) (closed_then (level_piece (keep_still v) keep_piece.plain) (closed_behind (dr v) (level_piece (behind_still ptr2 at g v) (behind_piece ptr2 at g).plain)))
 set_level (settings.Loaded g) place unset dl dr dw v =
@@ -75,19 +76,19 @@ field_level f pushed lo a b whole dw =
     let place : Place = place_of f pushed a in
     let access : Access = access_of (types_of f.parts.types) a in
     let how : Setting = setting_of f pushed place access b in
-    set_level how place (setting_unset _ f pushed place access b (λ n h. (number_idle f b n h).calls)) (base_level f pushed lo a) (value_level f (below_value how pushed place) (lo + uses None a) b) dw
+    set_level how place (setting_unset _ f pushed place access b (λ n h. (number_idle f b n h).calls)) (base_level f pushed lo (base_for how) a) (value_level f (below_value how pushed place) (lo + uses None a) b) dw
 
 step_level : (f : Framed) (pushed lo : ℕ) (t : QTy) (how : StepKind) (e : Typed) → Lasting (calls_of f e) (node_code f pushed lo Value t (step (in_front how) e)) → Lasting (calls_of f e) (step_effect f pushed lo how e)
 step_level f pushed lo t how e whole =
     let place : Place = place_of f pushed e in
-    stepped_level (stepping_of how (target_bytes f (bare e)) place (access_of (types_of f.parts.types) e)) place lo (base_level f pushed (lo + 1) e) whole
+    stepped_level (stepping_of how (target_bytes f (bare e)) place (access_of (types_of f.parts.types) e)) lo (base_level f pushed (lo + 1) Pointer e) whole
 
 op_level : (f : Framed) (pushed lo : ℕ) (op : BinaryOp) (size : ℕ) (a b : Typed) (whole : List Line) → Lasting (calls_of f a ++ calls_of f b) whole → Lasting (calls_of f a ++ calls_of f b) (changed_code f pushed lo op size a b whole)
 op_level f pushed lo op size a b whole dw =
     let place : Place = place_of f pushed a in
     let access : Access = access_of (types_of f.parts.types) a in
     let unneeded : Unneeded (changing_of op size place access b) (calls_of f b ≡ []) = changing_unneeded _ op size place access b (λ z h. (constant_idle f b z h).calls) in
-    changed_level (changing_of op size place access b) place lo unneeded (base_level f pushed (lo + 1) a) (value_level f pushed (lo + 1 + uses None a) b) dw
+    changed_level (changing_of op size place access b) lo unneeded (base_level f pushed (lo + 1) Pointer a) (value_level f pushed (lo + 1 + uses None a) b) dw
 
 mutual
   pub effect_level : (f : Framed) (pushed lo : ℕ) (e : Typed) → Lasting (calls_of f e) (effect_code f pushed lo e)
@@ -99,7 +100,7 @@ mutual
   node_effect_level f pushed lo t (assign a b) =
       let place : Place = place_of f pushed a in
       let access : Access = access_of (types_of f.parts.types) a in
-      filled_level (calls_of f b) (filling_of place access b) (filling_unneeded _ place access b (λ n h. (number_idle f b n h).calls)) (base_level f pushed lo a) (field_level f pushed lo a b (node_code f pushed lo Value t (assign a b)) (value_level f pushed lo (node t (assign a b))))
+      filled_level (calls_of f b) (filling_of place access b) (filling_unneeded _ place access b (λ n h. (number_idle f b n h).calls)) (base_level f pushed lo Registers a) (field_level f pushed lo a b (node_code f pushed lo Value t (assign a b)) (value_level f pushed lo (node t (assign a b))))
   node_effect_level f pushed lo t (assign_op op k a b) = op_level f pushed lo op 1 a b (node_code f pushed (lo + 1) Value t (assign_op op k a b)) (value_level f pushed (lo + 1) (node t (assign_op op k a b)))
   node_effect_level f pushed lo t (assign_step op a b) = op_level f pushed lo op (target_bytes f (bare a)) a b (node_code f pushed (lo + 1) Value t (assign_step op a b)) (value_level f pushed (lo + 1) (node t (assign_step op a b)))
   node_effect_level f pushed lo t (step PreInc e) = step_level f pushed lo t PreInc e (value_level f pushed lo (node t (step PreInc e)))

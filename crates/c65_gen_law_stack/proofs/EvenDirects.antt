@@ -5,7 +5,7 @@ use Rattle.std.proofs.lemmas.Bool.{and_from}
 use Rattle.c65_base.specs.declared.operators.BinaryOp.{BinaryOp}
 use Rattle.c65_base.specs.declared.operators.BinaryOp.TheVariants as ops
 use Rattle.c65_mach.specs.declared.rows.Op.{Op}
-use Rattle.c65_mach.specs.declared.rows.Op.TheVariants.{Bcc, Bcs, Beq, Bne, Bvc, Clc, Cmp, Cpx, Dex, Eor, Inx, Lda, Ldx, Ldy, Ora, Pha, Pla, Sbc, Sec, Sta, Stx, Tax, Tay, Txa, Tya}
+use Rattle.c65_mach.specs.declared.rows.Op.TheVariants.{Adc, Bcc, Bcs, Beq, Bne, Bvc, Clc, Cmp, Cpx, Dex, Eor, Inx, Lda, Ldx, Ldy, Ora, Pha, Pla, Sbc, Sec, Sta, Stx, Tax, Tay, Txa, Tya}
 use Rattle.c65_mach.specs.declared.rows.Mode.{Mode}
 use Rattle.c65_mach.specs.declared.rows.Mode.TheVariants.{Absolute, Immediate, IndirectY, ZeroPage}
 use Rattle.c65_mach.specs.Step.{kind_of}
@@ -15,7 +15,7 @@ use Rattle.c65_code.specs.declared.line.Line.TheVariants.{Do}
 use Rattle.c65_code.specs.Access.{is_written}
 use Rattle.c65_code.specs.Segments.{is_to}
 use Rattle.c65_genwide.specs.Lines.{value}
-use Rattle.c65_genload.specs.Words.{sp, sreg, tmp1, tmp2, implied, zero_page, branch}
+use Rattle.c65_genload.specs.Words.{ptr1, sp, sreg, tmp1, tmp2, implied, zero_page, branch}
 use Rattle.c65_genload.specs.Numbers.{first, second, third, fourth}
 use Rattle.c65_gendirect.specs.declared.bytes.OperandByte.{OperandByte}
 use Rattle.c65_gendirect.specs.declared.bytes.OperandByte.TheVariants.{Number, Low, High, Near, Data, Zero}
@@ -24,7 +24,8 @@ use Rattle.c65_gendirect.specs.declared.compare.Sides.TheVariants.{Word, Long}
 use Rattle.c65_gendirect.specs.declared.relation.Relation.{Relation}
 use Rattle.c65_gendirect.specs.declared.relation.Relation.TheVariants.{Less, NotLess, Greater, NotGreater, Equal, Unequal}
 use Rattle.c65_gendirect.specs.Bytes.{op_of, takes_y, aside, back}
-use Rattle.c65_gendirect.specs.Compare.{lowest_code, difference_code, by_carry, by_sign, order_code, second_code, same_code, compare_code, compare_byte_code}
+use Rattle.c65_gendirect.specs.Compare.{lowest_code, difference_code, by_carry, by_sign, order_code, second_code, same_code, is_sign_test, highest_code, ordered_code, compare_code, compare_byte_code}
+use Rattle.c65_gendirect.specs.Pointed.{pointer_code, pointed_sum_code}
 use Rattle.c65_gendirect.specs.Tests.{or_code, all_zero_code, zero_test_code, truth_code}
 use Rattle.c65_gendirect.specs.Words.{instruction, carry_code, first_byte_code, both_bytes_code, onward_code, end_label, is_and, is_number, word_code, sum_code, add_number_code, taken_from_code, long_mask_code}
 use Rattle.c65_gen_law_stack.specs.Bank.{lies_outside}
@@ -100,6 +101,13 @@ word_even op low high fresh =
 pub sum_even : {X : Labels} (low high : OperandByte) → Even No X (sum_code low high)
 sum_even low high = both_even ops.Add low high
 
+pub pointer_even : {X : Labels} → Even No X pointer_code
+pointer_even = even_lines pointer_code refl
+
+pub pointed_sum_even : {X : Labels} (low high : OperandByte) → Even No X (pointed_sum_code low high)
+pointed_sum_even low high =
+    even_on (first_even ops.Add low) (even_on (even_lines (zero_page Sta ptr1 ∷ implied Txa ∷ []) refl) (even_on (byte_even Adc high refl) (even_lines (zero_page Sta (ptr1 + 1) ∷ []) refl)))
+
 pub added_even : {X : Labels} (n fresh : ℕ) → Even No X (add_number_code n fresh)
 added_even n fresh =
     even_if (n % 65536 == 0) (even_labelled fresh (even_lines [] refl))
@@ -155,13 +163,22 @@ same_even (Long d0 d1 d2 d3) other x =
     even_on (byte_even Cmp d0 refl) (even_on (even_branch Bne other refl x) (even_on (second_even d1) (even_on (even_branch Bne other refl x) (even_on (even_lines (zero_page Lda sreg ∷ []) refl)
     (even_on (byte_even Cmp d2 refl) (even_on (even_branch Bne other refl x) (even_on (even_lines (zero_page Lda (sreg + 1) ∷ []) refl) (byte_even Cmp d3 refl))))))))
 
+highest_even : {X : Labels} (sides : Sides) → Even No X (highest_code sides)
+highest_even (Word low high) = even_lines (implied Txa ∷ []) refl
+highest_even (Long d0 d1 d2 d3) = even_lines (zero_page Lda (sreg + 1) ∷ []) refl
+
+ordered_even : {X : Labels} (r : Relation) (is_signed : Bool) (sides : Sides) (fresh to : ℕ) → X to → Even No X (ordered_code r is_signed sides fresh to)
+ordered_even r is_signed sides fresh to x =
+    even_if (is_sign_test r is_signed sides) (even_on (highest_even sides) (even_end (even_then (even_label fresh) (even_branch (by_sign r) to (sign_branches r) x)) (λ l z. absurd z) (λ l z. inr z)))
+    (even_on (difference_even r sides) (order_even r is_signed fresh to x))
+
 pub compare_even : {X : Labels} (r : Relation) (is_signed : Bool) (sides : Sides) (fresh to : ℕ) → X to → Even No X (compare_code r is_signed sides fresh to)
 compare_even Equal is_signed sides fresh to x = even_close fresh (inr (inr refl)) (even_then (same_even sides fresh (inl refl)) (even_then (even_branch Beq to refl (inr x)) (even_label fresh)))
 compare_even Unequal is_signed sides fresh to x = even_on (same_even sides to x) (even_labelled fresh (even_branch Bne to refl x))
-compare_even Less is_signed sides fresh to x = even_on (difference_even Less sides) (order_even Less is_signed fresh to x)
-compare_even NotLess is_signed sides fresh to x = even_on (difference_even NotLess sides) (order_even NotLess is_signed fresh to x)
-compare_even Greater is_signed sides fresh to x = even_on (difference_even Greater sides) (order_even Greater is_signed fresh to x)
-compare_even NotGreater is_signed sides fresh to x = even_on (difference_even NotGreater sides) (order_even NotGreater is_signed fresh to x)
+compare_even Less is_signed sides fresh to x = ordered_even Less is_signed sides fresh to x
+compare_even NotLess is_signed sides fresh to x = ordered_even NotLess is_signed sides fresh to x
+compare_even Greater is_signed sides fresh to x = ordered_even Greater is_signed sides fresh to x
+compare_even NotGreater is_signed sides fresh to x = ordered_even NotGreater is_signed sides fresh to x
 
 pub compare_byte_even : {X : Labels} (r : Relation) (d : OperandByte) (to : ℕ) → X to → Even No X (compare_byte_code r d to)
 compare_byte_even Equal d to x = even_on (byte_even Cmp d refl) (even_branch Beq to refl x)

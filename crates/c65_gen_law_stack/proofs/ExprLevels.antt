@@ -38,6 +38,8 @@ use Rattle.c65_gendirect.specs.declared.compare.Sides.TheVariants.{Word}
 use Rattle.c65_gendirect.specs.declared.relation.Relation.{Relation}
 use Rattle.c65_gendirect.specs.Compare.{relation_of}
 use Rattle.c65_genshift.specs.Shifts.{labelled}
+use Rattle.c65_genexpr.specs.declared.destination.Destination.{Destination}
+use Rattle.c65_genexpr.specs.declared.destination.Destination.TheVariants.{Registers}
 use Rattle.c65_genexpr.specs.declared.operands.Operands.{Operands}
 use Rattle.c65_genexpr.specs.declared.operands.Operands.TheVariants.{Numbers, PointerFirst, PointerLast, Pointers}
 use Rattle.c65_genexpr.specs.declared.operating.Operating.{Operating}
@@ -60,7 +62,8 @@ use Rattle.c65_genexpr.specs.Operands.{residue_of, constant_in, operands_of, com
 use Rattle.c65_genexpr.specs.Direct.{kept_at, own_bytes, direct_of, is_pure, is_byte}
 use Rattle.c65_genexpr.specs.Comparing.{relation_by, tested_by, compared_by, comparing_of, on, low_code, below_side, comparison_by, held_by, or_held}
 use Rattle.c65_genexpr.specs.Operating.{operating_of, waiting_code, stacked_code, below_operand, operator_by, is_light}
-use Rattle.c65_genexpr.specs.Storing.{storing_of, below_value, assigned_by}
+use Rattle.c65_genexpr.specs.Destination.{arrived, destination_of}
+use Rattle.c65_genexpr.specs.Storing.{storing_of, below_value, base_for, assigned_by}
 use Rattle.c65_genexpr.specs.Held.{held_low, held_high}
 use Rattle.c65_genexpr.specs.Steps.{amount_of}
 use Rattle.c65_genexpr.specs.Arguments.{is_fast, is_counted, stays, passed_size, passed_of, reads_of}
@@ -71,16 +74,17 @@ use Rattle.c65_genfield.specs.Bits.{byte_field}
 use Rattle.c65_genexpr.specs.Code.{width_in, tested_load, load_by, behind_open, compound, call_by, expr_code, node_code, base_code, pointer_base_code, args_code}
 use Rattle.c65_gen_law_lines.specs.Stack.{waiting_by, taken, left, waits, argument_bytes, passed, unless_named, calls_of, node_calls, args_calls}
 use Rattle.c65_gen_law_lines.proofs.Made.{is_plain, piece_append}
-use Rattle.c65_gen_law_lines.proofs.Pieces.{narrow_piece, keep_piece, byte_behind_piece, word_behind_piece, read_store_piece, byte_through_piece, word_through_piece, symbol_piece, offset_piece, object_piece, conversion_piece, push_piece, argument_piece, hold_piece, part_piece, load_piece, store_piece, copy_piece, spill_piece, further_piece, unary_piece, between_piece, behind_piece, wide_piece, open_piece, close_piece, named_piece, pointer_piece, direct_piece}
+use Rattle.c65_gen_law_lines.proofs.Pieces.{narrow_piece, keep_piece, byte_behind_piece, word_behind_piece, read_bytes_piece, byte_through_piece, word_through_piece, symbol_piece, offset_piece, object_piece, conversion_piece, push_piece, argument_piece, hold_piece, part_piece, store_piece, copy_piece, spill_piece, further_piece, unary_piece, between_piece, behind_piece, wide_piece, open_piece, close_piece, named_piece, pointer_piece, direct_piece}
 use Rattle.c65_gen_law_lines.proofs.Leaves.{waits_append, Leaves, leaves_then, leaves_none, Still}
-use Rattle.c65_gen_law_lines.proofs.StackPieces.{narrow_still, keep_still, byte_behind_still, word_behind_still, read_store_still, byte_through_still, word_through_still, object_still, further_still, offset_still, conversion_still, push_leaves, argument_leaves, holding, hold_leaves, bytes_still, load_still, stored_leaves, copy_leaves, spill_still, unary_still, between_leaves, behind_leaves, wide_leaves, open_leaves, close_leaves}
+use Rattle.c65_gen_law_lines.proofs.StackPieces.{narrow_still, keep_still, byte_behind_still, word_behind_still, read_bytes_still, byte_through_still, word_through_still, object_still, further_still, offset_still, conversion_still, push_leaves, argument_leaves, holding, hold_leaves, bytes_still, stored_leaves, copy_leaves, spill_still, unary_still, between_leaves, behind_leaves, wide_leaves, open_leaves, close_leaves}
+use Rattle.c65_gen_law_lines.proofs.Pointed.{arrived_piece, arrived_still, fetch_piece, fetch_still}
 use Rattle.c65_gen_law_lines.proofs.Drops.{Unstored, storing_calls, sum_calls}
 use Rattle.c65_gen_law_lines.proofs.StackLaws.{nothing_more}
 use Rattle.c65_gen_law_stack.proofs.Levels.{Level, Nowhere, level_then, level_end, level_behind, level_plain, level_piece, level_none, Closed, closed_open, closed_then, closed_behind, closed_as}
 use Rattle.c65_gen_law_stack.proofs.EvenLines.{Labels, No, One, Both, At, Even, even_end, even_label, even_jump, even_lines}
 use Rattle.c65_gen_law_stack.proofs.EvenShifts.{elements_even}
 use Rattle.c65_gen_law_stack.proofs.EvenDirects.{byte_even, compare_even, compare_byte_even, zero_test_even, truth_even}
-use Rattle.c65_gen_law_stack.proofs.EvenForms.{loaded_test_even, Aim, value_test_even, routine_test_even, constant_even, keep_even, form_even}
+use Rattle.c65_gen_law_stack.proofs.EvenForms.{loaded_test_even, Aim, value_test_even, routine_test_even, constant_even, keep_even, form_even, end_even}
 use Rattle.c65_gen_law_stack.proofs.StepLevels.{step_level}
 use Rattle.c65_gen_law_stack.proofs.ReadSides.{Reaches, direct_reached, First, Compared, compared_reached, or_held_reached, tested_reached, Operated, operating_reached}
 
@@ -268,7 +272,7 @@ tested_level (Some d) kind s to pb p = leading_behind (leading_closed pb) (zero_
 tested_level None kind s to pb p = leading_behind (leading_closed pb) p
 
 load_level : {cs : List (List ℕ)} {v : List ℕ} {a : List Line} (w : Wanted) (place : Place) (access : Access) → Closed cs v a v → Aimed w cs v (load_by w place access a)
-load_level {v = v} Value place access p = leading_closed (behind p (load_still place access v) (load_piece place access).plain)
+load_level {v = v} Value place access p = leading_closed (behind p (fetch_still place access v) (fetch_piece place access).plain)
 load_level (Test to s) place access p = tested_level (kept_at place access) (type_at access) s to p (loaded_test_even (byte_field access) place access s to refl)
 
 converted_level : {cs : List (List ℕ)} {v : List ℕ} {a : List Line} (t : Ty) (from : IntType) → Closed cs v a v → Closed cs v (conversion_by Value true t from a) v
@@ -303,14 +307,14 @@ stacked_level op (PointerFirst size) right v = closed_then (shut (elements_even 
 stacked_level op (PointerLast size) right v = behind_level op (PointerLast size) right v
 stacked_level op (Pointers size) right v = behind_level op (Pointers size) right v
 
-operator_level : {cs ds : List (List ℕ)} {v : List ℕ} {a b : List Line} (how : Operating) (op : BinaryOp) (operands : Operands) (right : IntType) (label : ℕ) → Operated (cs ≡ []) (ds ≡ []) how → ((u : List ℕ) → Closed cs u a u) → ((u : List ℕ) → Closed ds u b u)
-    → Closed (cs ++ ds) v (operator_by how op operands right label a b) v
-operator_level {cs = cs} {ds = ds} {v = v} (operating.Left form) op operands right label empty da db = closed_as (left_calls cs ds empty) (closed_value (leading_behind (leading_closed (da v)) (form_even form label)))
-operator_level {cs = cs} {ds = ds} {v = v} (operating.Right form) op operands right label empty da db = closed_as (right_calls cs ds empty) (closed_value (leading_behind (leading_closed (db v)) (form_even form label)))
-operator_level {v = v} (operating.Held form) op operands right label empty da db =
-    closed_value (leading_then (leading_closed (da v)) (leading_then (leading_even keep_even) (leading_behind (leading_closed (db v)) (form_even form label))))
-operator_level {v = v} operating.Stacked op operands right label empty da db =
-    closed_value (leading_labelled label (leading_closed (closed_then (da v) (closed_then (waiting_level operands v) (closed_behind (db (waiting (width_of (computes operands)) ∷ v)) (stacked_level op operands right v))))))
+operator_level : {cs ds : List (List ℕ)} {v : List ℕ} {a b : List Line} (d : Destination) (how : Operating) (op : BinaryOp) (operands : Operands) (right : IntType) (label : ℕ) → Operated (cs ≡ []) (ds ≡ []) how → ((u : List ℕ) → Closed cs u a u) → ((u : List ℕ) → Closed ds u b u)
+    → Closed (cs ++ ds) v (operator_by d how op operands right label a b) v
+operator_level {cs = cs} {ds = ds} {v = v} d (operating.Left form) op operands right label empty da db = closed_as (left_calls cs ds empty) (closed_value (leading_behind (leading_closed (da v)) (form_even d form label)))
+operator_level {cs = cs} {ds = ds} {v = v} d (operating.Right form) op operands right label empty da db = closed_as (right_calls cs ds empty) (closed_value (leading_behind (leading_closed (db v)) (form_even d form label)))
+operator_level {v = v} d (operating.Held form) op operands right label empty da db =
+    closed_value (leading_then (leading_closed (da v)) (leading_then (leading_even keep_even) (leading_behind (leading_closed (db v)) (form_even d form label))))
+operator_level {v = v} d operating.Stacked op operands right label empty da db =
+    closed_then (da v) (closed_then (waiting_level operands v) (closed_behind (db (waiting (width_of (computes operands)) ∷ v)) (closed_then (stacked_level op operands right v) (shut (end_even d label) v))))
 
 -- ---- comparisons
 
@@ -357,7 +361,7 @@ relation_level w (Some r) p q = q r
 assigned_level : {cs ds : List (List ℕ)} {v : List ℕ} {a b : List Line} (how : Storing) (place : Place) (access : Access) → Unstored how (cs ≡ []) (ds ≡ []) → ((u : List ℕ) → Closed cs u a u) → ((u : List ℕ) → Closed ds u b u)
     → Closed (cs ++ ds) v (assigned_by how place access a b) v
 assigned_level {cs = cs} {ds = ds} {v = v} (storing.Left at stored) place access unread da db =
-    closed_as (left_calls cs ds unread) (behind (da v) (leaves_then (read_store_still at stored v) (narrow_still (type_at access) v)) (piece_append 22 3 _ _ (read_store_piece at stored) (narrow_piece (type_at access))).plain)
+    closed_as (left_calls cs ds unread) (behind (da v) (leaves_then (read_bytes_still at stored v) (narrow_still (type_at access) v)) (piece_append 18 3 _ _ (read_bytes_piece at stored) (narrow_piece (type_at access))).plain)
 assigned_level {cs = cs} {ds = ds} {v = v} (storing.RightByte at low high) place access unread da db =
     closed_as (right_calls cs ds unread) (behind (db v) (leaves_then (byte_through_still at low high v) (narrow_still (type_at access) v)) (piece_append 22 3 _ _ (byte_through_piece at low high) (narrow_piece (type_at access))).plain)
 assigned_level {cs = cs} {ds = ds} {v = v} (storing.RightWord at low high) place access unread da db = closed_as (right_calls cs ds unread) (behind (db v) (word_through_still at low high v) (word_through_piece at low high).plain)
@@ -369,6 +373,9 @@ assigned_level {v = v} storing.Stacked place access unread da db =
     closed_then (da v) (before (hold_leaves place v) (hold_piece place).plain (behind (db (holding place v)) (stored_leaves place access v) (store_piece place access).plain))
 
 -- ---- the bases of places
+
+arrived_level : {cs : List (List ℕ)} {v : List ℕ} {a : List Line} (d : Destination) → Closed cs v a v → Closed cs v (a ++ arrived d) v
+arrived_level {v = v} d p = behind p (arrived_still d v) (arrived_piece d).plain
 
 either_level : {cs : List (List ℕ)} {v : List ℕ} {a b : List Line} (c : Bool) → Closed cs v a v → Closed cs v b v → Closed cs v (if c then a else b) v
 either_level true da db = da
@@ -410,8 +417,8 @@ mutual
   node_level f pushed lo w t (deref e) v = wanted_level w (width_in t) (value_level f pushed lo e v)
   node_level f pushed lo w t (member e m) v = wanted_level w (width_in t) (behind (value_level f pushed lo e v) (offset_still (offset_at (types_of f.parts.types) (bare e) m) v) (offset_piece (offset_at (types_of f.parts.types) (bare e) m)).plain)
   node_level f pushed lo w t (load e) v =
-      let place : Place = place_of f pushed e in
-      load_level w place (access_of (types_of f.parts.types) e) (base_level f pushed lo e v)
+      let access : Access = access_of (types_of f.parts.types) e in
+      load_level w (place_of f pushed e) access (base_level f pushed lo (destination_of access) e v)
   node_level f pushed lo w t (address e) v = wanted_level w (width_in t) (value_level f pushed lo e v)
   node_level f pushed lo w t (decay e) v = wanted_level w (width_in t) (value_level f pushed lo e v)
   node_level f pushed lo w t (convert e) v =
@@ -424,7 +431,7 @@ mutual
       let bytes : ℕ = waiting (width_of (computes operands)) in
       let operator : Operating = operating_of f pushed op operands a b in
       relation_level w (relation_of op)
-      (wanted_level w (width_in t) (operator_level operator op operands (kind_in b) lo (operating_reached (no_calls f) f pushed op operands a b) (value_level f pushed (lo + 1) a) (value_level f (below_operand operator pushed bytes) (lo + 1 + uses None a) b)))
+      (wanted_level w (width_in t) (operator_level Registers operator op operands (kind_in b) lo (operating_reached (no_calls f) f pushed op operands a b) (value_level f pushed (lo + 1) a) (value_level f (below_operand operator pushed bytes) (lo + 1 + uses None a) b)))
       (λ r.
       let q : Relation = relation_by (sense w) r in
       let kind : IntType = computes operands in
@@ -454,15 +461,15 @@ mutual
       let place : Place = place_of f pushed a in
       let access : Access = access_of (types_of f.parts.types) a in
       let how : Storing = storing_of f pushed a b in
-      wanted_level w (width_in t) (assigned_level how place access (storing_calls f pushed a b) (base_level f pushed lo a) (value_level f (below_value how pushed place) (lo + uses None a) b))
-  node_level f pushed lo w t (assign_op op k a b) v = wanted_level w (width_in t) (compound_level f pushed op (Numbers k) a b v (base_level f pushed lo a v) (value_level f (behind_open f pushed (Numbers k) a) (lo + uses None a) b (waiting (width_of k) ∷ holding (place_of f pushed a) v)))
+      wanted_level w (width_in t) (assigned_level how place access (storing_calls f pushed a b) (base_level f pushed lo (base_for how) a) (value_level f (below_value how pushed place) (lo + uses None a) b))
+  node_level f pushed lo w t (assign_op op k a b) v = wanted_level w (width_in t) (compound_level f pushed op (Numbers k) a b v (base_level f pushed lo Registers a v) (value_level f (behind_open f pushed (Numbers k) a) (lo + uses None a) b (waiting (width_of k) ∷ holding (place_of f pushed a) v)))
   node_level f pushed lo w t (assign_step op a b) v =
       let operands : Operands = PointerFirst (target_bytes f (bare a)) in
-      wanted_level w (width_in t) (compound_level f pushed op operands a b v (base_level f pushed lo a v) (value_level f (behind_open f pushed operands a) (lo + uses None a) b (2 ∷ holding (place_of f pushed a) v)))
+      wanted_level w (width_in t) (compound_level f pushed op operands a b v (base_level f pushed lo Registers a v) (value_level f (behind_open f pushed operands a) (lo + uses None a) b (2 ∷ holding (place_of f pushed a) v)))
   node_level f pushed lo w t (step how e) v =
       let place : Place = place_of f pushed e in
       let access : Access = access_of (types_of f.parts.types) e in
-      wanted_level w (width_in t) (closed_behind (base_level f pushed (lo + 1) e v) (step_level how (target_bytes f (bare e)) (amount_of f how (bare e)) place access lo v))
+      wanted_level w (width_in t) (closed_behind (base_level f pushed (lo + 1) Registers e v) (step_level how (target_bytes f (bare e)) (amount_of f how (bare e)) place access lo v))
   node_level f pushed lo w t (copy a b) v =
       wanted_level w (width_in t) (closed_then (value_level f pushed lo a v) (before (push_leaves Ax v) (push_piece Ax).plain (behind (value_level f (more pushed 2) (lo + uses None a) b (2 ∷ v)) (copy_leaves (type_bytes f (type_in t)) v) (copy_piece (type_bytes f (type_in t))).plain)))
   node_level f pushed lo w t (call g es) v =
@@ -470,29 +477,33 @@ mutual
   node_level f pushed lo w t (pack e) v =
       let place : Place = place_of f pushed e in
       let extent : Extent = extent_by (type_bytes f (type_in t)) in
-      wanted_level w (width_in t) (behind (base_level f pushed lo e v) (bytes_still place extent v) (part_piece place extent).plain)
+      wanted_level w (width_in t) (behind (base_level f pushed lo Registers e v) (bytes_still place extent v) (part_piece place extent).plain)
   node_level f pushed lo w t (spill i e) v =
       let extent : Extent = extent_by (type_bytes f (type_in t)) in
       wanted_level w (width_in t) (behind (value_level f pushed lo e v) (spill_still (object_code f pushed i) extent (object_still f pushed i) v) (spill_piece (object_code f pushed i) extent (object_piece f pushed i)).plain)
   node_level f pushed lo w t further v = wanted_level w (width_in t) (level_piece (further_still f pushed v) (further_piece f pushed).plain)
 
-  pub base_level : (f : Framed) (pushed lo : ℕ) (e : Typed) (v : List ℕ) → Closed (calls_of f e) v (base_code f pushed lo e) v
-  base_level f pushed lo (node t (literal n)) v = level_none
-  base_level f pushed lo (node t (object i)) v = target_level (object_place f pushed i) (closed_value (node_level f pushed lo Value t (object i) v))
-  base_level f pushed lo (node t (deref e)) v = pointer_base_level f pushed lo e v
-  base_level f pushed lo (node t (member e m)) v =
+  pub base_level : (f : Framed) (pushed lo : ℕ) (d : Destination) (e : Typed) (v : List ℕ) → Closed (calls_of f e) v (base_code f pushed lo d e) v
+  base_level f pushed lo d (node t (literal n)) v = level_none
+  base_level f pushed lo d (node t (object i)) v = target_level (object_place f pushed i) (arrived_level d (closed_value (node_level f pushed lo Value t (object i) v)))
+  base_level f pushed lo d (node t (deref e)) v = pointer_base_level f pushed lo d e v
+  base_level f pushed lo d (node t (member e m)) v =
       let n : ℕ = offset_at (types_of f.parts.types) (bare e) m in
-      either_level (has_base (place_of f pushed e) n) (base_level f pushed lo e v) (behind (value_level f pushed lo e v) (offset_still n v) (offset_piece n).plain)
-  base_level f pushed lo (node t n) v = closed_value (node_level f pushed lo Value t n v)
+      either_level (has_base (place_of f pushed e) n) (base_level f pushed lo d e v) (behind (value_level f pushed lo e v) (leaves_then (offset_still n v) (arrived_still d v)) (piece_append 9 4 _ _ (offset_piece n) (arrived_piece d)).plain)
+  base_level f pushed lo d (node t n) v = arrived_level d (closed_value (node_level f pushed lo Value t n v))
 
-  pointer_base_level : (f : Framed) (pushed lo : ℕ) (e : Typed) (v : List ℕ) → Closed (calls_of f e) v (pointer_base_code f pushed lo e) v
-  pointer_base_level f pushed lo (node t (binary op a b)) v =
+  pointer_base_level : (f : Framed) (pushed lo : ℕ) (d : Destination) (e : Typed) (v : List ℕ) → Closed (calls_of f e) v (pointer_base_code f pushed lo d e) v
+  pointer_base_level f pushed lo d (node t (binary op a b)) v =
       let operands : Operands = operands_of f (bare a) (bare b) in
       let place : Place = target_of f pushed a in
-      sum_level (sum_has_base place (added_bytes op operands (constant_in b))) lo (λ h. sum_calls f place op operands b h) (pointer_base_level f pushed (lo + 1) a v) (closed_value (node_level f pushed lo Value t (binary op a b) v))
-  pointer_base_level f pushed lo (node t (address e)) v = base_level f pushed lo e v
-  pointer_base_level f pushed lo (node t (decay e)) v = base_level f pushed lo e v
-  pointer_base_level f pushed lo (node t n) v = closed_value (node_level f pushed lo Value t n v)
+      let operator : Operating = operating_of f pushed op operands a b in
+      sum_level (sum_has_base place (added_bytes op operands (constant_in b))) lo (λ h. sum_calls f place op operands b h) (pointer_base_level f pushed (lo + 1) d a v)
+      (closed_value (relation_level Value (relation_of op)
+      (leading_closed (operator_level d operator op operands (kind_in b) lo (operating_reached (no_calls f) f pushed op operands a b) (value_level f pushed (lo + 1) a) (value_level f (below_operand operator pushed (waiting (width_of (computes operands)))) (lo + 1 + uses None a) b)))
+      (λ r. leading_closed (arrived_level d (closed_value (node_level f pushed lo Value t (binary op a b) v))))))
+  pointer_base_level f pushed lo d (node t (address e)) v = base_level f pushed lo d e v
+  pointer_base_level f pushed lo d (node t (decay e)) v = base_level f pushed lo d e v
+  pointer_base_level f pushed lo d (node t n) v = arrived_level d (closed_value (node_level f pushed lo Value t n v))
 
   args_level : (f : Framed) (pushed lo : ℕ) (fast : Bool) (es : Nodes) (v : List ℕ) → Closed (args_calls f es) v (args_code f pushed lo fast es) (passed f fast es ++ v)
   args_level f pushed lo fast none v = level_none

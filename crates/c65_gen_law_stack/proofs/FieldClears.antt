@@ -1,6 +1,6 @@
 -- The lines that set bit-fields write nothing of regbank, where the unit is not there.
-use Rattle.std.proofs.Common.{ℕ, ◌+◌, ◌-◌, ◌/◌, ◌%◌, ◌==◌, [], ◌∷◌, ◌++◌, refl}
-use Rattle.c65_mach.specs.declared.rows.Op.TheVariants.{And, Lda, Ldy, Ora, Sta}
+use Rattle.std.proofs.Common.{ℕ, ◌-◌, ◌/◌, ◌%◌, ◌==◌, [], ◌∷◌, refl}
+use Rattle.c65_mach.specs.declared.rows.Op.TheVariants.{And, Lda, Ldy, Ora}
 use Rattle.c65_mach.specs.declared.rows.Mode.TheVariants.{IndirectY}
 use Rattle.c65_code.specs.declared.line.Operand.TheVariants.{Zero}
 use Rattle.c65_genwide.specs.Lines.{value}
@@ -13,7 +13,7 @@ use Rattle.c65_genload.specs.Numbers.{first, second}
 use Rattle.c65_genload.specs.Fields.{is_in_byte, own_bits, is_unit}
 use Rattle.c65_genchange.specs.declared.spots.Spot.{Spot}
 use Rattle.c65_genchange.specs.Spots.{spot_at}
-use Rattle.c65_genfield.specs.Setting.{own_word, set_word, clear_code, raise_code, byte_code, number_code, behind_code, set_code}
+use Rattle.c65_genfield.specs.Setting.{own_word, set_word, byte_code, number_code, behind_code, set_code}
 use Rattle.c65_genexpr.specs.Held.{ptr2}
 use Rattle.c65_gen_law_stack.proofs.BankPieces.{Clear, clear_then, clear_if, clear_none, IsOff, up_clear, bytes_store_clear, unit_set_clear, merged_clear, bits_clear}
 use Rattle.c65_gen_law_stack.proofs.ChangeClears.{IsOffByte, load_clear, store_clear, put_clear}

@@ -20,10 +20,11 @@ use Rattle.c65_genload.specs.declared.places.Access.{Access}
 use Rattle.c65_genload.specs.declared.places.Access.TheVariants.{Whole, Part}
 use Rattle.c65_genload.specs.declared.places.Extent.TheVariants.{One, Two}
 use Rattle.c65_genload.specs.Places.{byte_more, extent_of}
-use Rattle.c65_genload.specs.Loads.{load_code}
 use Rattle.c65_genload.specs.Conversions.{waiting}
 use Rattle.c65_gendirect.specs.declared.relation.Relation.{Relation}
 use Rattle.c65_gendirect.specs.Compare.{relation_of}
+use Rattle.c65_genexpr.specs.declared.destination.Destination.{Destination}
+use Rattle.c65_genexpr.specs.declared.destination.Destination.TheVariants.{Registers}
 use Rattle.c65_genexpr.specs.declared.operands.Operands.{Operands}
 use Rattle.c65_genexpr.specs.declared.operands.Operands.TheVariants.{Numbers, PointerFirst, PointerLast, Pointers}
 use Rattle.c65_genexpr.specs.declared.operating.Operating.{Operating}
@@ -33,12 +34,13 @@ use Rattle.c65_genexpr.specs.Types.{kind_in, bare, offset_at, access_of, target_
 use Rattle.c65_genexpr.specs.Places.{moved, has_base, added_bytes, sum_has_base, sum_place, object_place, place_of, target_of, object_code, target_code}
 use Rattle.c65_genexpr.specs.Operands.{residue_of, constant_in, operands_of, computes}
 use Rattle.c65_genexpr.specs.Operating.{takes_bytes, is_light_form, is_light_place, is_signed_char, is_light_extent, is_light_access, is_light_load, is_light_step, constant_form, by_right, is_light_conversion, is_light_operator, is_light, reading_of, held_form, held_if, or_held, below_operand, operator_by}
+use Rattle.c65_genexpr.specs.Destination.{arrived, destination_of, fetch_code}
 use Rattle.c65_genexpr.specs.Steps.{amount_of}
 use Rattle.c65_genexpr.specs.Uses.{by_relation, uses}
-use Rattle.c65_genexpr.specs.Code.{width_in, expr_code, node_code, base_code, pointer_base_code}
+use Rattle.c65_genexpr.specs.Code.{width_in, expr_code, node_code, base_code, pointer_base_code, operator_code}
 use Rattle.c65_gen_law_stack.specs.Light.{LightLinesLeavePtr2}
 use Rattle.c65_gen_law_stack.proofs.StepSpares.{step_spares}
-use Rattle.c65_gen_law_stack.proofs.LightPieces.{Spares, spares_then, spares_if, narrow_spares, few_spares, first_spares, field_spares, spares_none, spares_label, number_spares, symbol_spares, offset_spares, load_spares, object_spares, conversion_spares, form_spares}
+use Rattle.c65_gen_law_stack.proofs.LightPieces.{Spares, spares_then, spares_if, narrow_spares, few_spares, first_spares, field_spares, spares_none, spares_label, number_spares, symbol_spares, offset_spares, load_spares, fetch_spares, arrived_spares, object_spares, conversion_spares, form_spares}
 
 target_spares : (code : List Line) (place : Place) → is_light_place place ≡ true → Spares (target_code place code)
 target_spares code (places.Far at) h = absurd cc
@@ -78,31 +80,37 @@ sum_light place None h = absurd cc
 
 -- the base of a known place has labels alone
 mutual
-  base_spares : (f : Framed) (pushed lo : ℕ) (e : Typed) → is_light_place (place_of f pushed e) ≡ true → Spares (base_code f pushed lo e)
-  base_spares f pushed lo (node t (literal n)) h = spares_none
-  base_spares f pushed lo (node t (object i)) h = target_spares (object_code f pushed i) (object_place f pushed i) h
-  base_spares f pushed lo (node t (member e m)) h =
+  base_spares : (f : Framed) (pushed lo : ℕ) (d : Destination) (e : Typed) → is_light_place (place_of f pushed e) ≡ true → Spares (base_code f pushed lo d e)
+  base_spares f pushed lo d (node t (literal n)) h = spares_none
+  base_spares f pushed lo d (node t (object i)) h = target_spares (object_code f pushed i ++ arrived d) (object_place f pushed i) h
+  base_spares f pushed lo d (node t (member e m)) h =
       let n : ℕ = offset_at (types_of f.parts.types) (bare e) m in
-      first_spares _ (has_base (place_of f pushed e) n) (moved_told (place_of f pushed e) n h) (base_spares f pushed lo e (moved_light (place_of f pushed e) n h))
-  base_spares f pushed lo (node t (deref e)) h = pointer_spares f pushed lo e h
-  base_spares f pushed lo (node t _) h = absurd cc
+      first_spares _ (has_base (place_of f pushed e) n) (moved_told (place_of f pushed e) n h) (base_spares f pushed lo d e (moved_light (place_of f pushed e) n h))
+  base_spares f pushed lo d (node t (deref e)) h = pointer_spares f pushed lo d e h
+  base_spares f pushed lo d (node t _) h = absurd cc
 
-  pointer_spares : (f : Framed) (pushed lo : ℕ) (e : Typed) → is_light_place (target_of f pushed e) ≡ true → Spares (pointer_base_code f pushed lo e)
-  pointer_spares f pushed lo (node t (binary op a b)) h =
+  pointer_spares : (f : Framed) (pushed lo : ℕ) (d : Destination) (e : Typed) → is_light_place (target_of f pushed e) ≡ true → Spares (pointer_base_code f pushed lo d e)
+  pointer_spares f pushed lo d (node t (binary op a b)) h =
       let place : Place = target_of f pushed a in
       let added : Option ℕ = added_bytes op (operands_of f (bare a) (bare b)) (constant_in b) in
-      first_spares _ (sum_has_base place added) (sum_told place added h) (spares_then (spares_label lo) (pointer_spares f pushed (lo + 1) a (sum_light place added h)))
-  pointer_spares f pushed lo (node t (address e)) h = base_spares f pushed lo e h
-  pointer_spares f pushed lo (node t (decay e)) h = base_spares f pushed lo e h
-  pointer_spares f pushed lo (node t _) h = absurd cc
+      first_spares _ (sum_has_base place added) (sum_told place added h) (spares_then (spares_label lo) (pointer_spares f pushed (lo + 1) d a (sum_light place added h)))
+  pointer_spares f pushed lo d (node t (address e)) h = base_spares f pushed lo d e h
+  pointer_spares f pushed lo d (node t (decay e)) h = base_spares f pushed lo d e h
+  pointer_spares f pushed lo d (node t _) h = absurd cc
 
 -- an operator, from the lines of its operands; those of the right one are as many bytes wait
-operator_spares : {a : List Line} (b : ℕ → List Line) (reading held : Operating) (op : BinaryOp) (operands : Operands) (right : IntType) (label pushed bytes : ℕ) (la lb : Bool) → is_light_operator reading la lb ≡ true → (la ≡ true → Spares a) → (lb ≡ true → Spares (b pushed))
-    → Spares (operator_by (or_held reading held) op operands right label a (b (below_operand (or_held reading held) pushed bytes)))
-operator_spares b (operating.Left form) held op operands right label pushed bytes la lb h left other = let both = and_parts (is_light_form form) la h in spares_then (left both.1) (form_spares form label both.0)
-operator_spares b (operating.Right form) held op operands right label pushed bytes la lb h left other = let both = and_parts (is_light_form form) lb h in spares_then (other both.1) (form_spares form label both.0)
-operator_spares b (operating.Held form) held op operands right label pushed bytes la lb h left other = absurd cc
-operator_spares b operating.Stacked held op operands right label pushed bytes la lb h left other = absurd cc
+operator_spares : {a : List Line} (b : ℕ → List Line) (d : Destination) (reading held : Operating) (op : BinaryOp) (operands : Operands) (right : IntType) (label pushed bytes : ℕ) (la lb : Bool) → is_light_operator reading la lb ≡ true → (la ≡ true → Spares a) → (lb ≡ true → Spares (b pushed))
+    → Spares (operator_by d (or_held reading held) op operands right label a (b (below_operand (or_held reading held) pushed bytes)))
+operator_spares b d (operating.Left form) held op operands right label pushed bytes la lb h left other = let both = and_parts (is_light_form form) la h in spares_then (left both.1) (form_spares d form label both.0)
+operator_spares b d (operating.Right form) held op operands right label pushed bytes la lb h left other = let both = and_parts (is_light_form form) lb h in spares_then (other both.1) (form_spares d form label both.0)
+operator_spares b d (operating.Held form) held op operands right label pushed bytes la lb h left other = absurd cc
+operator_spares b d operating.Stacked held op operands right label pushed bytes la lb h left other = absurd cc
+
+light_operator : (f : Framed) (pushed lo : ℕ) (d : Destination) (op : BinaryOp) (a b : Typed) → is_light_operator (reading_of f pushed op (operands_of f (bare a) (bare b)) a b) (is_light f pushed a) (is_light f pushed b) ≡ true
+    → (is_light f pushed a ≡ true → Spares (expr_code f pushed (lo + 1) Value a)) → (is_light f pushed b ≡ true → Spares (expr_code f pushed (lo + 1 + uses None a) Value b)) → Spares (operator_code f pushed lo d op a b)
+light_operator f pushed lo d op a b h left other =
+    let operands : Operands = operands_of f (bare a) (bare b) in
+    operator_spares (λ n. expr_code f n (lo + 1 + uses None a) Value b) d (reading_of f pushed op operands a b) (held_if (is_light f pushed b) (held_form op operands)) op operands (kind_in b) lo pushed (waiting (width_of (computes operands))) (is_light f pushed a) (is_light f pushed b) h left other
 
 -- no comparison is light
 by_relation_spares : (op : BinaryOp) {other : List Line} (g : Relation → List Line) → takes_bytes op ≡ true → Spares other → Spares (by_relation (relation_of op) other g)
@@ -136,17 +144,17 @@ stepping_spares (places.Bank b) (Whole kind) light h known far = known refl
 stepping_spares (places.Near at) (Whole kind) light h known far = known refl
 stepping_spares (places.Data s at) (Whole kind) light h known far = known refl
 
-loading_spares : {a : List Line} (place : Place) (access : Access) (light : Bool) → is_light_load place access light ≡ true → (is_light_place place ≡ true → Spares a) → (light ≡ true → Spares a) → Spares (a ++ load_code place access)
+loading_spares : {a : List Line} (place : Place) (access : Access) (light : Bool) → is_light_load place access light ≡ true → (is_light_place place ≡ true → Spares a) → (light ≡ true → Spares a) → Spares (a ++ fetch_code place access)
 loading_spares (places.Far at) (Whole kind) light h known far =
     let outer = and_parts (is_light_extent (extent_of kind)) (not (is_signed_char kind) && light) h in
     let inner = and_parts (not (is_signed_char kind)) light outer.1 in
-    spares_then (far inner.1) (spares_then (few_spares (places.Far at) (extent_of kind) outer.0) (narrow_spares kind inner.0))
+    spares_then (far inner.1) (fetch_spares (places.Far at) (Whole kind) inner.0 (spares_then (few_spares (places.Far at) (extent_of kind) outer.0) (narrow_spares kind inner.0)))
 loading_spares (places.Far at) (Part g) light h known far =
     let both = and_parts (is_light_access (Part g)) light h in
     spares_then (far both.1) (field_spares (places.Far at) g both.0 (few_spares (places.Far (byte_more at (g.low / 8))) One refl) (few_spares (places.Far at) Two refl))
-loading_spares (places.Bank b) access light h known far = spares_then (known refl) (load_spares (places.Bank b) access refl h)
-loading_spares (places.Near at) access light h known far = spares_then (known refl) (load_spares (places.Near at) access refl h)
-loading_spares (places.Data s at) access light h known far = spares_then (known refl) (load_spares (places.Data s at) access refl h)
+loading_spares (places.Bank b) access light h known far = spares_then (known refl) (fetch_spares (places.Bank b) access h (load_spares (places.Bank b) access refl h))
+loading_spares (places.Near at) access light h known far = spares_then (known refl) (fetch_spares (places.Near at) access h (load_spares (places.Near at) access refl h))
+loading_spares (places.Data s at) access light h known far = spares_then (known refl) (fetch_spares (places.Data s at) access h (load_spares (places.Data s at) access refl h))
 
 mutual
   light_spares : (f : Framed) (pushed lo : ℕ) (e : Typed) → is_light f pushed e ≡ true → Spares (expr_code f pushed lo Value e)
@@ -163,46 +171,42 @@ mutual
   node_spares f pushed lo t (decay e) h = light_spares f pushed lo e h
   node_spares f pushed lo t (member e m) h = spares_then (light_spares f pushed lo e h) (offset_spares (offset_at (types_of f.parts.types) (bare e) m))
   node_spares f pushed lo t (load e) h =
-      loading_spares (place_of f pushed e) (access_of (types_of f.parts.types) e) (is_light f pushed e) h (base_spares f pushed lo e) (far_spares f pushed lo e)
+      let access : Access = access_of (types_of f.parts.types) e in
+      loading_spares (place_of f pushed e) access (is_light f pushed e) h (base_spares f pushed lo (destination_of access) e) (far_spares f pushed lo (destination_of access) e)
   node_spares f pushed lo t (step how e) h =
       let place : Place = place_of f pushed e in
       let access : Access = access_of (types_of f.parts.types) e in
-      spares_then (stepping_spares place access (is_light f pushed e) h (base_spares f pushed (lo + 1) e) (far_spares f pushed (lo + 1) e))
+      spares_then (stepping_spares place access (is_light f pushed e) h (base_spares f pushed (lo + 1) Registers e) (far_spares f pushed (lo + 1) Registers e))
       (step_spares how (target_bytes f (bare e)) (amount_of f how (bare e)) place access lo (is_light f pushed e) h)
   node_spares f pushed lo t (convert e) h =
       let both = and_parts (is_light_conversion (type_in t) (kind_in e)) (is_light f pushed e) h in
       spares_then (light_spares f pushed lo e both.1) (conversion_spares (type_in t) (kind_in e) both.0)
   node_spares f pushed lo t (binary op a b) h =
-      let operands : Operands = operands_of f (bare a) (bare b) in
-      let reading : Operating = reading_of f pushed op operands a b in
-      let held : Operating = held_if (is_light f pushed b) (held_form op operands) in
-      let both = and_parts (takes_bytes op) (is_light_operator reading (is_light f pushed a) (is_light f pushed b)) h in
-      by_relation_spares op _ both.0
-      (operator_spares (λ n. expr_code f n (lo + 1 + uses None a) Value b) reading held op operands (kind_in b) lo pushed (waiting (width_of (computes operands))) (is_light f pushed a) (is_light f pushed b) both.1
-      (light_spares f pushed (lo + 1) a) (light_spares f pushed (lo + 1 + uses None a) b))
+      let both = and_parts (takes_bytes op) (is_light_operator (reading_of f pushed op (operands_of f (bare a) (bare b)) a b) (is_light f pushed a) (is_light f pushed b)) h in
+      by_relation_spares op _ both.0 (light_operator f pushed lo Registers op a b both.1 (light_spares f pushed (lo + 1) a) (light_spares f pushed (lo + 1 + uses None a) b))
   node_spares f pushed lo t _ h = absurd cc
 
   -- the base of a place whose address is light
-  far_spares : (f : Framed) (pushed lo : ℕ) (e : Typed) → is_light f pushed e ≡ true → Spares (base_code f pushed lo e)
-  far_spares f pushed lo (node t (literal n)) h = spares_none
-  far_spares f pushed lo (node t (object i)) h = target_spares (object_code f pushed i) (object_place f pushed i) h
-  far_spares f pushed lo (node t (deref e)) h = far_pointer_spares f pushed lo e h
-  far_spares f pushed lo (node t (member e m)) h =
+  far_spares : (f : Framed) (pushed lo : ℕ) (d : Destination) (e : Typed) → is_light f pushed e ≡ true → Spares (base_code f pushed lo d e)
+  far_spares f pushed lo d (node t (literal n)) h = spares_none
+  far_spares f pushed lo d (node t (object i)) h = target_spares (object_code f pushed i ++ arrived d) (object_place f pushed i) h
+  far_spares f pushed lo d (node t (deref e)) h = far_pointer_spares f pushed lo d e h
+  far_spares f pushed lo d (node t (member e m)) h =
       let n : ℕ = offset_at (types_of f.parts.types) (bare e) m in
-      spares_if (has_base (place_of f pushed e) n) (far_spares f pushed lo e h) (spares_then (light_spares f pushed lo e h) (offset_spares n))
-  far_spares f pushed lo (node t n) h = node_spares f pushed lo t n h
+      spares_if (has_base (place_of f pushed e) n) (far_spares f pushed lo d e h) (spares_then (light_spares f pushed lo e h) (spares_then (offset_spares n) (arrived_spares d)))
+  far_spares f pushed lo d (node t n) h = spares_then (node_spares f pushed lo t n h) (arrived_spares d)
 
-  far_pointer_spares : (f : Framed) (pushed lo : ℕ) (e : Typed) → is_light f pushed e ≡ true → Spares (pointer_base_code f pushed lo e)
-  far_pointer_spares f pushed lo (node t (binary op a b)) h =
+  far_pointer_spares : (f : Framed) (pushed lo : ℕ) (d : Destination) (e : Typed) → is_light f pushed e ≡ true → Spares (pointer_base_code f pushed lo d e)
+  far_pointer_spares f pushed lo d (node t (binary op a b)) h =
       let operands : Operands = operands_of f (bare a) (bare b) in
       let place : Place = target_of f pushed a in
       let both = and_parts (takes_bytes op) (is_light_operator (reading_of f pushed op operands a b) (is_light f pushed a) (is_light f pushed b)) h in
       placed_spares (sum_has_base place (added_bytes op operands (constant_in b)))
-      (λ told. spares_then (spares_label lo) (far_pointer_spares f pushed (lo + 1) a (pointer_light place op operands (constant_in b) _ (is_light f pushed a) (is_light f pushed b) told both.1)))
-      (node_spares f pushed lo t (binary op a b) h)
-  far_pointer_spares f pushed lo (node t (address e)) h = far_spares f pushed lo e h
-  far_pointer_spares f pushed lo (node t (decay e)) h = far_spares f pushed lo e h
-  far_pointer_spares f pushed lo (node t n) h = node_spares f pushed lo t n h
+      (λ told. spares_then (spares_label lo) (far_pointer_spares f pushed (lo + 1) d a (pointer_light place op operands (constant_in b) _ (is_light f pushed a) (is_light f pushed b) told both.1)))
+      (by_relation_spares op _ both.0 (light_operator f pushed lo d op a b both.1 (light_spares f pushed (lo + 1) a) (light_spares f pushed (lo + 1 + uses None a) b)))
+  far_pointer_spares f pushed lo d (node t (address e)) h = far_spares f pushed lo d e h
+  far_pointer_spares f pushed lo d (node t (decay e)) h = far_spares f pushed lo d e h
+  far_pointer_spares f pushed lo d (node t n) h = spares_then (node_spares f pushed lo t n h) (arrived_spares d)
 
 pub light_lines_leave_ptr2 : LightLinesLeavePtr2
 light_lines_leave_ptr2 f pushed lo e light = (light_spares f pushed lo e light).all

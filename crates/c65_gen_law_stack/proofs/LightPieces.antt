@@ -10,7 +10,7 @@ use Rattle.c65_ints.specs.declared.types.IntType.{IntType}
 use Rattle.c65_ints.specs.declared.types.IntType.TheVariants as ints
 use Rattle.c65_ctype.specs.Trees.{Ty, void, int, pointer, array, tag, function}
 use Rattle.c65_mach.specs.declared.rows.Op.{Op}
-use Rattle.c65_mach.specs.declared.rows.Op.TheVariants.{And, Asl, Lsr, Rol, Ror, Lda, Ldy, Pha, Pla, Sbc, Sec, Sta, Stx, Tax, Tay, Txa, Tya}
+use Rattle.c65_mach.specs.declared.rows.Op.TheVariants.{Adc, And, Asl, Lsr, Rol, Ror, Lda, Ldy, Pha, Pla, Sbc, Sec, Sta, Stx, Tax, Tay, Txa, Tya}
 use Rattle.c65_mach.specs.declared.rows.Mode.{Mode}
 use Rattle.c65_mach.specs.declared.rows.Mode.TheVariants.{Absolute, Immediate, IndirectY, ZeroPage}
 use Rattle.c65_mach.specs.Step.{kind_of}
@@ -35,7 +35,7 @@ use Rattle.c65_genload.specs.declared.places.Place.TheVariants as places
 use Rattle.c65_genload.specs.declared.places.Access.{Access}
 use Rattle.c65_genload.specs.declared.places.Access.TheVariants.{Whole, Part}
 use Rattle.c65_genload.specs.declared.places.Field.{Field}
-use Rattle.c65_genload.specs.Words.{sp, sreg, tmp1, tmp2, implied, shift_a, zero_page}
+use Rattle.c65_genload.specs.Words.{ptr1, sp, sreg, tmp1, tmp2, implied, shift_a, zero_page}
 use Rattle.c65_ints.specs.Ranges.{is_signed_of}
 use Rattle.c65_genload.specs.Places.{onward, extent_of}
 use Rattle.c65_genload.specs.Fields.{ones, is_in_byte, down_code, is_topmost, cut_code, spread_code, byte_value_code, rounds, is_astride, astride_code, wide_value_code}
@@ -47,13 +47,17 @@ use Rattle.c65_gendirect.specs.declared.bytes.OperandByte.{OperandByte}
 use Rattle.c65_gendirect.specs.declared.bytes.OperandByte.TheVariants.{Number, Low, High, Near, Data, Zero}
 use Rattle.c65_gendirect.specs.Bytes.{op_of, takes_y, aside, back}
 use Rattle.c65_gendirect.specs.Words.{instruction, carry_code, first_byte_code, both_bytes_code, onward_code, end_label, is_and, is_number, word_code, add_number_code, taken_from_code, long_mask_code}
+use Rattle.c65_gendirect.specs.Pointed.{pointer_code, pointed_sum_code, behind_pointer_code}
 use Rattle.c65_genshift.specs.Shifts.{labelled}
 use Rattle.c65_genshift.specs.Quick.{elements_code}
 use Rattle.c65_genexpr.specs.Places.{more, soft_code, soft_place, code_at, place_at, object_code, object_place}
 use Rattle.c65_genexpr.specs.Operands.{conversion_code}
+use Rattle.c65_genexpr.specs.declared.destination.Destination.{Destination}
+use Rattle.c65_genexpr.specs.declared.destination.Destination.TheVariants.{Registers, Pointer}
 use Rattle.c65_genexpr.specs.declared.operating.Form.{Form}
 use Rattle.c65_genexpr.specs.declared.operating.Form.TheVariants as forms
-use Rattle.c65_genexpr.specs.Operating.{is_signed_char, is_light_form, is_light_place, is_light_extent, is_light_access, is_light_to, is_light_conversion, placed, form_code}
+use Rattle.c65_genexpr.specs.Operating.{is_signed_char, is_light_form, is_light_place, is_light_extent, is_light_access, is_light_to, is_light_conversion, placed, value_form, pointed_word, pointed_form, form_code}
+use Rattle.c65_genexpr.specs.Destination.{arrived, destination_by, pointed_code, fetch_by, fetch_code}
 use Rattle.c65_gen_law_stack.specs.Light.{leaves_ptr2, lies_beside}
 
 -- lines that leave ptr2
@@ -178,6 +182,27 @@ pub load_spares : (place : Place) (access : Access) → is_light_place place ≡
 load_spares place (Whole kind) h k = spares_then (bytes_spares place (extent_of kind) h) (narrow_spares kind k)
 load_spares place (Part g) h k = field_spares place g k (bytes_spares (onward place (g.low / 8)) One (onward_light place (g.low / 8) h)) (bytes_spares place Two h)
 
+behind_pointer_spares : (at : ℕ) (extent : Extent) → Spares (behind_pointer_code at extent)
+behind_pointer_spares at One = record { all = refl }
+behind_pointer_spares at Two = record { all = refl }
+behind_pointer_spares at Three = record { all = refl }
+behind_pointer_spares at Four = record { all = refl }
+
+pointed_spares : (place : Place) (kind : IntType) → not (is_signed_char kind) ≡ true → Spares (load_code place (Whole kind)) → Spares (pointed_code place kind)
+pointed_spares (places.Far at) kind h p = spares_then (behind_pointer_spares at (extent_of kind)) (narrow_spares kind h)
+pointed_spares (places.Bank at) kind h p = p
+pointed_spares (places.Near at) kind h p = p
+pointed_spares (places.Data s at) kind h p = p
+
+fetch_by_spares : (d : Destination) (place : Place) (kind : IntType) → not (is_signed_char kind) ≡ true → Spares (load_code place (Whole kind)) → Spares (fetch_by d place kind)
+fetch_by_spares Registers place kind h p = p
+fetch_by_spares Pointer place kind h p = pointed_spares place kind h p
+
+-- what is loaded behind ptr1 is as light as what is loaded behind AX
+pub fetch_spares : (place : Place) (access : Access) → is_light_access access ≡ true → Spares (load_code place access) → Spares (fetch_code place access)
+fetch_spares place (Whole kind) h p = fetch_by_spares (destination_by (extent_of kind)) place kind h p
+fetch_spares place (Part g) h p = p
+
 soft_spares : (raised : Bool) (pushed at stacked : ℕ) → is_light_place (soft_place raised at) ≡ true → Spares (soft_code raised pushed at stacked)
 soft_spares true pushed at stacked h = absurd cc
 soft_spares false pushed at stacked h = record { all = refl }
@@ -279,6 +304,19 @@ word_spares op low high fresh =
     spares_if (is_number 0 high) (spares_then (first_byte_spares op low) (onward_spares op fresh))
     (spares_if (is_and op && is_number 255 high) (first_byte_spares op low) (spares_then (both_spares op low high) (end_spares op fresh)))
 
+pointer_spares : Spares pointer_code
+pointer_spares = record { all = refl }
+
+pub arrived_spares : (d : Destination) → Spares (arrived d)
+arrived_spares Registers = spares_none
+arrived_spares Pointer = pointer_spares
+
+pointed_sum_spares : (low high : OperandByte) → Spares (pointed_sum_code low high)
+pointed_sum_spares low high =
+    let next : Spares (zero_page Sta ptr1 ∷ implied Txa ∷ []) = record { all = refl } in
+    let last : Spares (zero_page Sta (ptr1 + 1) ∷ []) = record { all = refl } in
+    spares_then (first_byte_spares ops.Add low) (spares_then next (spares_then (byte_spares Adc high refl) last))
+
 added_spares : (n fresh : ℕ) → Spares (add_number_code n fresh)
 added_spares n fresh =
     spares_if (n % 65536 == 0) (spares_label fresh)
@@ -314,13 +352,26 @@ placed_spares ops.Add label = spares_none
 placed_spares ops.Sub label = spares_none
 placed_spares _ label = spares_label label
 
-pub form_spares : (form : Form) (label : ℕ) → is_light_form form ≡ true → Spares (form_code form label)
-form_spares (forms.Sum n) label h = added_spares n label
-form_spares (forms.LongSum n) label h = let one : Spares (add_long_code n) = record { all = refl } in spares_labelled label one
-form_spares (forms.Mask op n) label h = spares_labelled label (long_mask_spares op n)
-form_spares (forms.Constant kind quick) label h = absurd cc
-form_spares (forms.Word op low high) label h = spares_then (word_spares op low high label) (placed_spares op label)
-form_spares (forms.Under low high) label h = spares_labelled label (taken_spares low high)
-form_spares (forms.Indexed size low high) label h = spares_then (elements_spares size h) (word_spares ops.Add low high label)
-form_spares (forms.Distance size low high) label h = spares_then (word_spares ops.Sub low high label) (divide_spares size h)
-form_spares (forms.DistanceUnder size low high) label h = spares_labelled label (spares_then (taken_spares low high) (divide_spares size h))
+value_spares : (form : Form) (label : ℕ) → is_light_form form ≡ true → Spares (value_form form label)
+value_spares (forms.Sum n) label h = added_spares n label
+value_spares (forms.LongSum n) label h = let one : Spares (add_long_code n) = record { all = refl } in spares_labelled label one
+value_spares (forms.Mask op n) label h = spares_labelled label (long_mask_spares op n)
+value_spares (forms.Constant kind quick) label h = absurd cc
+value_spares (forms.Word op low high) label h = spares_then (word_spares op low high label) (placed_spares op label)
+value_spares (forms.Under low high) label h = spares_labelled label (taken_spares low high)
+value_spares (forms.Indexed size low high) label h = spares_then (elements_spares size h) (word_spares ops.Add low high label)
+value_spares (forms.Distance size low high) label h = spares_then (word_spares ops.Sub low high label) (divide_spares size h)
+value_spares (forms.DistanceUnder size low high) label h = spares_labelled label (spares_then (taken_spares low high) (divide_spares size h))
+
+pointed_word_spares : (op : BinaryOp) (low high : OperandByte) (label : ℕ) → Spares (pointed_word op low high label)
+pointed_word_spares ops.Add low high label = spares_labelled label (pointed_sum_spares low high)
+pointed_word_spares op low high label = spares_then (word_spares op low high label) (spares_then (placed_spares op label) pointer_spares)
+
+pointed_form_spares : (form : Form) (label : ℕ) → is_light_form form ≡ true → Spares (pointed_form form label)
+pointed_form_spares (forms.Word op low high) label h = pointed_word_spares op low high label
+pointed_form_spares (forms.Indexed size low high) label h = spares_then (elements_spares size h) (pointed_word_spares ops.Add low high label)
+pointed_form_spares form label h = spares_then (value_spares form label h) pointer_spares
+
+pub form_spares : (d : Destination) (form : Form) (label : ℕ) → is_light_form form ≡ true → Spares (form_code d form label)
+form_spares Registers form label h = value_spares form label h
+form_spares Pointer form label h = pointed_form_spares form label h

@@ -1,5 +1,6 @@
 -- What the machine does at lines of a function's entry and end.
 use Rattle.std.proofs.Common.{◌≡◌, ◌≢◌, ℕ, zero, suc, ◌+◌, ◌-◌, ◌%◌, ◌<◌, ◌≤◌, inl, inr, false, List, [], ◌∷◌, length, refl, ap, ◌∙◌, arith}
+use Rattle.std.specs.Prelude.{max}
 use Rattle.std.proofs.lemmas.Bool.Decides.{eqb_tells}
 use Rattle.c65_code.specs.declared.parts.Part.TheVariants.{Zp}
 use Rattle.c65_code.specs.declared.routine.Count.{Count}
@@ -122,12 +123,12 @@ pub record Pushes (bytes : List ℕ) (t u : State) : Type 0 where
   pub sinks : Sinks (length bytes) t u
   pub there : bytes_at (length bytes) (sp_of u) u.mem ≡ bytes
 
-pushed_by : (row : Row) (bytes : List ℕ) (t u : State) → Meets row t u → row.sp ≡ sp_of t - length bytes → row.writes ≡ listed bytes (sp_of t - length bytes) → length bytes ≤ sp_of t → Pushes bytes t u
-pushed_by row bytes t u meets lower writes fits =
+pushed_by : (row : Row) (bytes : List ℕ) (t u : State) → Meets row t u → row.sp ≡ sp_of t - length bytes → row.settled ≡ sp_of t - length bytes → row.writes ≡ listed bytes (sp_of t - length bytes) → length bytes ≤ sp_of t → Pushes bytes t u
+pushed_by row bytes t u meets lower start writes fits =
     let at : ℕ = sp_of t - length bytes in
     let low : sp_of u ≡ at = meets.sp ∙ lower in
-    let below : row.sp ≤ sp_of t = omega (arith, lower) in
-    let all : (b : ℕ) → row.sp ≤ b → u.mem b ≡ written t.mem (listed bytes at) b = λ b h. meets.mem b (inr (inr h)) ∙ ap (λ ws. written t.mem ws b) writes in
+    let below : row.settled ≤ sp_of t = omega (arith, start) in
+    let all : (b : ℕ) → row.settled ≤ b → u.mem b ≡ written t.mem (listed bytes at) b = λ b h. meets.mem b (inr (inr h)) ∙ ap (λ ws. written t.mem ws b) writes in
     record {
       sinks = record {
         sp = omega (arith, low, fits);
@@ -135,14 +136,14 @@ pushed_by row bytes t u meets lower writes fits =
         pushed = meets.pushed;
         frames = meets.frames;
       };
-      there = ap (λ (k : ℕ). bytes_at (length bytes) k u.mem) low ∙ (bytes_same (length bytes) at (written t.mem (listed bytes at)) u.mem (λ b h. all b (omega (arith, lower, h))) ∙ listed_there bytes at t.mem);
+      there = ap (λ (k : ℕ). bytes_at (length bytes) k u.mem) low ∙ (bytes_same (length bytes) at (written t.mem (listed bytes at)) u.mem (λ b h. all b (omega (arith, start, h))) ∙ listed_there bytes at t.mem);
     }
 
 pub pushes_a : (s : Setting) (p q : Place) (t u : State) → IsCalm s t → Moves s (Call (Routine routines.PushA)) p t q u → Pushes (t.regs.a ∷ []) t u × Quiet 1 t u
 pushes_a s p q t u calm m =
     let row : Row = push_row routines.PushA (t.regs.a ∷ []) t in
     let meets : Meets row t u = m.goes.1 in
-    let pushes : Pushes (t.regs.a ∷ []) t u = pushed_by row (t.regs.a ∷ []) t u meets refl refl (omega (arith, calm.low)) in
+    let pushes : Pushes (t.regs.a ∷ []) t u = pushed_by row (t.regs.a ∷ []) t u meets refl refl refl (omega (arith, calm.low)) in
     (pushes, record { sinks = pushes.sinks; a = meets.a; bank = bank_kept row t u meets refl refl refl refl refl refl })
 
 pub pushes_ax : (s : Setting) (p q : Place) (t u : State) → IsCalm s t → Moves s (Call (Routine routines.PushAx)) p t q u → Quiet 2 t u
@@ -150,7 +151,7 @@ pushes_ax s p q t u calm m =
     let bytes : List ℕ = t.regs.a ∷ t.regs.x ∷ [] in
     let row : Row = push_row routines.PushAx bytes t in
     let meets : Meets row t u = m.goes.1 in
-    let pushes : Pushes bytes t u = pushed_by row bytes t u meets refl refl (omega (arith, calm.low)) in
+    let pushes : Pushes bytes t u = pushed_by row bytes t u meets refl refl refl (omega (arith, calm.low)) in
     record { sinks = pushes.sinks; a = meets.a; bank = bank_kept row t u meets refl refl refl refl refl refl }
 
 pub pushes_eax : (s : Setting) (p q : Place) (t u : State) → IsCalm s t → Moves s (Call (Routine routines.PushEax)) p t q u → Quiet 4 t u
@@ -158,7 +159,7 @@ pushes_eax s p q t u calm m =
     let bytes : List ℕ = t.regs.a ∷ t.regs.x ∷ t.zp 2 ∷ t.zp 3 ∷ [] in
     let row : Row = push_row routines.PushEax bytes t in
     let meets : Meets row t u = m.goes.1 in
-    let pushes : Pushes bytes t u = pushed_by row bytes t u meets refl refl (omega (arith, calm.low)) in
+    let pushes : Pushes bytes t u = pushed_by row bytes t u meets refl refl refl (omega (arith, calm.low)) in
     record { sinks = pushes.sinks; a = meets.a; bank = bank_kept row t u meets refl refl refl refl refl refl }
 
 -- regbank is pushed, and stays
@@ -166,7 +167,7 @@ pub saves : (s : Setting) (p q : Place) (t u : State) → IsCalm s t → Moves s
 saves s p q t u calm m =
     let row : Row = push_row routines.SaveRegs (bank_of t) t in
     let meets : Meets (record row { cost = 256 }) t u = m.goes.1 in
-    let pushes : Pushes (bank_of t) t u = pushed_by (record row { cost = 256 }) (bank_of t) t u meets refl refl (omega (arith, calm.low)) in
+    let pushes : Pushes (bank_of t) t u = pushed_by (record row { cost = 256 }) (bank_of t) t u meets refl refl refl (omega (arith, calm.low)) in
     (pushes, record { sinks = pushes.sinks; a = meets.a; bank = bank_kept (record row { cost = 256 }) t u meets refl refl refl refl refl refl })
 
 pub lowers : (count : Count) (s : Setting) (p q : Place) (t u : State) → number_of count ≤ sp_of t → Moves s (Call (Routine (routines.DecSp count))) p t q u → Quiet (number_of count) t u
@@ -181,7 +182,7 @@ lowers count s p q t u fits m =
 
 pub lowers_y : (s : Setting) (p q : Place) (t u : State) → t.regs.y ≤ sp_of t → Moves s (Call (Routine routines.SubYSp)) p t q u → Quiet t.regs.y t u
 lowers_y s p q t u fits m =
-    let row : Row = sp_row routines.SubYSp (sp_of t - t.regs.y) t in
+    let row : Row = record (sp_row routines.SubYSp (sp_of t - t.regs.y) t) { room = max 64 t.regs.y } in
     let meets : Meets row t u = m.goes.1 in
     record {
       sinks = record { sp = omega (arith, meets.sp, fits); mem = λ b h. meets.mem b (inr (inl h)); pushed = meets.pushed; frames = meets.frames };

@@ -1,6 +1,6 @@
 -- Comparisons with a right side that is read where it lies, and branches by them (C90 6.3.8, 6.3.9). In each form the lines go to
 -- a label where the left side has the relation to the right one, and else on.
-use Rattle.std.specs.Prelude.{ℕ, ◌+◌, Bool, if◌then◌else◌, Option, Some, None, List, [], ◌∷◌, ◌++◌}
+use Rattle.std.specs.Prelude.{ℕ, ◌+◌, ◌==◌, ◌&&◌, Bool, false, if◌then◌else◌, Option, Some, None, List, [], ◌∷◌, ◌++◌}
 use Rattle.c65_base.specs.declared.operators.BinaryOp.{BinaryOp}
 use Rattle.c65_base.specs.declared.operators.BinaryOp.TheVariants as ops
 use Rattle.c65_mach.specs.declared.rows.Op.{Op}
@@ -10,6 +10,7 @@ use Rattle.c65_code.specs.declared.line.Line.TheVariants.{Label}
 use Rattle.c65_genwide.specs.Lines.{value}
 use Rattle.c65_genload.specs.Words.{sreg, implied, zero_page, branch}
 use Rattle.c65_gendirect.specs.declared.bytes.OperandByte.{OperandByte}
+use Rattle.c65_gendirect.specs.declared.bytes.OperandByte.TheVariants.{Number}
 use Rattle.c65_gendirect.specs.declared.compare.Sides.{Sides}
 use Rattle.c65_gendirect.specs.declared.compare.Sides.TheVariants.{Word, Long}
 use Rattle.c65_gendirect.specs.declared.relation.Relation.{Relation}
@@ -87,11 +88,36 @@ same_code (Word low high) other = op_of Cmp low ++ (branch Bne other ∷ second_
 same_code (Long first second third fourth) other =
     op_of Cmp first ++ (branch Bne other ∷ (second_code second ++ (branch Bne other ∷ zero_page Lda sreg ∷ (op_of Cmp third ++ (branch Bne other ∷ zero_page Lda (sreg + 1) ∷ op_of Cmp fourth)))))
 
+-- whether both are signed, and the right side is 0: then the sign of the left one says whether it is less
+abbrev pub is_zero_byte : OperandByte → Bool
+is_zero_byte (Number n) = n == 0
+is_zero_byte byte = false
+
+abbrev pub are_zero : Sides → Bool
+are_zero (Word low high) = is_zero_byte low && is_zero_byte high
+are_zero (Long first second third fourth) = is_zero_byte first && (is_zero_byte second && (is_zero_byte third && is_zero_byte fourth))
+
+abbrev pub is_sign_test : Relation → Bool → Sides → Bool
+is_sign_test Less is_signed sides = is_signed && are_zero sides
+is_sign_test NotLess is_signed sides = is_signed && are_zero sides
+is_sign_test r is_signed sides = false
+
+-- the highest byte comes to A
+abbrev pub highest_code : Sides → List Line
+highest_code (Word low high) = implied Txa ∷ []
+highest_code (Long first second third fourth) = zero_page Lda (sreg + 1) ∷ []
+
+-- an order; fresh is placed once
+abbrev pub ordered_code : Relation → Bool → Sides → ℕ → ℕ → List Line
+ordered_code r is_signed sides fresh to =
+    if is_sign_test r is_signed sides then highest_code sides ++ (Label fresh ∷ branch (by_sign r) to ∷ [])
+    else difference_code r sides ++ order_code r is_signed fresh to
+
 -- AX or EAX with a word or a long; fresh is placed once
 abbrev pub compare_code : Relation → Bool → Sides → ℕ → ℕ → List Line
 compare_code Equal is_signed sides fresh to = same_code sides fresh ++ (branch Beq to ∷ Label fresh ∷ [])
 compare_code Unequal is_signed sides fresh to = same_code sides to ++ (branch Bne to ∷ Label fresh ∷ [])
-compare_code r is_signed sides fresh to = difference_code r sides ++ order_code r is_signed fresh to
+compare_code r is_signed sides fresh to = ordered_code r is_signed sides fresh to
 
 -- A with a byte, both without sign
 abbrev pub compare_byte_code : Relation → OperandByte → ℕ → List Line

@@ -1,7 +1,7 @@
 -- Values stored so far behind a pointer, at most 250 bytes, where the value or the pointer is read where it lies (C90 6.3.16.1). A
 -- word that lies where it may change is read whole before a byte of it is stored, as the two may overlap. A, or AX, is the value then.
 use Rattle.std.specs.Prelude.{ℕ, ◌+◌, List, [], ◌∷◌, ◌++◌}
-use Rattle.c65_mach.specs.declared.rows.Op.TheVariants.{Dey, Lda, Ldy, Pha, Pla, Sta, Stx, Tax, Txa}
+use Rattle.c65_mach.specs.declared.rows.Op.TheVariants.{Dey, Lda, Ldy, Pha, Pla, Sta, Tax, Txa}
 use Rattle.c65_code.specs.declared.line.Line.{Line}
 use Rattle.c65_genwide.specs.Lines.{value}
 use Rattle.c65_genload.specs.Words.{ptr1, implied, zero_page, by_y}
@@ -16,10 +16,6 @@ abbrev pub read_bytes_code : ℕ → Stored → List Line
 read_bytes_code at (Single low) = op_of Lda low ++ (value Ldy at ∷ by_y Sta ptr1 ∷ [])
 read_bytes_code at (Word low high) = op_of Lda low ++ (implied Pha ∷ (op_of Lda high ++ (value Ldy (byte_more at 1) ∷ by_y Sta ptr1 ∷ implied Tax ∷ implied Dey ∷ implied Pla ∷ by_y Sta ptr1 ∷ [])))
 read_bytes_code at (Fixed low high) = op_of Lda high ++ (value Ldy (byte_more at 1) ∷ by_y Sta ptr1 ∷ implied Tax ∷ (op_of Lda low ++ (value Ldy at ∷ by_y Sta ptr1 ∷ [])))
-
--- the pointer is in AX
-abbrev pub read_store_code : ℕ → Stored → List Line
-read_store_code at stored = zero_page Sta ptr1 ∷ zero_page Stx (ptr1 + 1) ∷ read_bytes_code at stored
 
 -- ptr1 is a pointer that is read
 abbrev pub point_code : OperandByte → OperandByte → List Line

@@ -1,7 +1,7 @@
 // Comparisons with a side that is read where it lies (C90 6.3.8, 6.3.9).
 ghost use Rattle.std.specs.Prelude.{◌≡◌, OnOk, OnErr};
 ghost use Rattle.c65_genwide.specs.Lines.{with_lines, Keeps};
-ghost use Rattle.c65_gendirect.specs.Compare.{lowest_code, upper_code, difference_code, by_carry, by_sign, order_code, second_code, same_code, compare_code, compare_byte_code};
+ghost use Rattle.c65_gendirect.specs.Compare.{lowest_code, upper_code, difference_code, by_carry, by_sign, order_code, is_zero_byte, are_zero, is_sign_test, highest_code, ordered_code, second_code, same_code, compare_code, compare_byte_code};
 
 use crate::bytes::{OperandByte, put_op, takes_y};
 use crate::relation::Relation;
@@ -114,6 +114,70 @@ fn put_order(
     }
 }
 
+fn is_zero_byte(byte: OperandByte) -> bool
+    ensures { result ≡ is_zero_byte byte }
+{
+    matches!(byte, OperandByte::Number(0))
+}
+
+fn are_zero(sides: Sides) -> bool
+    ensures { result ≡ are_zero sides }
+{
+    match sides {
+        Sides::Word(low, high) => is_zero_byte(low) && is_zero_byte(high),
+        Sides::Long(first, second, third, fourth) => {
+            is_zero_byte(first)
+                && is_zero_byte(second)
+                && is_zero_byte(third)
+                && is_zero_byte(fourth)
+        }
+    }
+}
+
+// Whether the sign of the left side alone says whether it is less.
+fn is_sign_test(relation: Relation, is_signed: bool, sides: Sides) -> bool
+    ensures { result ≡ is_sign_test relation is_signed sides }
+{
+    match relation {
+        Relation::Less | Relation::NotLess => is_signed && are_zero(sides),
+        _ => false,
+    }
+}
+
+// The highest byte comes to A.
+fn put_highest(sides: Sides, draft: &mut Draft) -> Result<(), AllocError>
+    ensures lines { OnOk result (draft.new ≡ with_lines draft.old (highest_code sides)) }
+    ensures kept { OnErr result (Keeps draft.old draft.new) }
+{
+    match sides {
+        Sides::Word(_, _) => put(draft, &[Do(Txa, Implied, Nothing)]),
+        Sides::Long(_, _, _, _) => put(draft, &[Do(Lda, ZeroPage, Zero(SREG + 1))]),
+    }
+}
+
+fn put_ordered(
+    relation: Relation,
+    is_signed: bool,
+    sides: Sides,
+    fresh: u32,
+    to: u32,
+    draft: &mut Draft,
+) -> Result<(), AllocError>
+    ensures lines { OnOk result (draft.new ≡ with_lines draft.old (ordered_code relation is_signed sides fresh to)) }
+    ensures kept { OnErr result (Keeps draft.old draft.new) }
+{
+    if is_sign_test(relation, is_signed, sides) {
+        put_highest(sides, draft)?;
+        put(
+            draft,
+            &[Label(fresh), Do(by_sign(relation), Relative, To(to))],
+        )
+    } else {
+        put_difference(relation, sides, draft)?;
+        put_order(relation, is_signed, fresh, to, draft)
+    }
+}
+
 // X and a byte.
 fn put_second(byte: OperandByte, draft: &mut Draft) -> Result<(), AllocError>
     ensures lines { OnOk result (draft.new ≡ with_lines draft.old (second_code byte)) }
@@ -173,10 +237,7 @@ pub fn put_compare(
             put_same(sides, to, draft)?;
             put(draft, &[Do(Bne, Relative, To(to)), Label(fresh)])
         }
-        _ => {
-            put_difference(relation, sides, draft)?;
-            put_order(relation, is_signed, fresh, to, draft)
-        }
+        _ => put_ordered(relation, is_signed, sides, fresh, to, draft),
     }
 }
 

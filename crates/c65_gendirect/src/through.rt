@@ -1,7 +1,7 @@
 // Values stored through a pointer, where the value or the pointer is read where it lies (C90 6.3.16.1).
 ghost use Rattle.std.specs.Prelude.{◌≡◌, OnOk, OnErr};
 ghost use Rattle.c65_genwide.specs.Lines.{with_lines, Keeps};
-ghost use Rattle.c65_gendirect.specs.Through.{read_bytes_code, read_store_code, point_code, byte_through_code, word_through_code};
+ghost use Rattle.c65_gendirect.specs.Through.{read_bytes_code, point_code, byte_through_code, word_through_code};
 
 use crate::bytes::{OperandByte, put_op};
 use c65_code::Draft;
@@ -10,7 +10,7 @@ use c65_code::Operand::{Byte, Nothing, Zero};
 use c65_genload::zero_page::PTR1;
 use c65_genwide::put;
 use c65_mach::Mode::{Immediate, Implied, IndirectY, ZeroPage};
-use c65_mach::Op::{Dey, Lda, Ldy, Pha, Pla, Sta, Stx, Tax, Txa};
+use c65_mach::Op::{Dey, Lda, Ldy, Pha, Pla, Sta, Tax, Txa};
 use std::alloc::AllocError;
 
 /// The bytes of a value that is read where it lies, from the lowest on.
@@ -22,9 +22,9 @@ pub enum Stored {
     Fixed(OperandByte, OperandByte),
 }
 
-// A word that lies where it may change is read whole before a byte of it is stored, as the two may
-// overlap.
-fn put_read_bytes(at: u8, stored: Stored, draft: &mut Draft) -> Result<(), AllocError>
+/// A value that is read goes so far behind the pointer in ptr1, and is in A or in AX then. A word that lies
+/// where it may change is read whole before a byte of it is stored, as the two may overlap.
+pub fn put_read_bytes(at: u8, stored: Stored, draft: &mut Draft) -> Result<(), AllocError>
     ensures lines { OnOk result (draft.new ≡ with_lines draft.old (read_bytes_code at stored)) }
     ensures kept { OnErr result (Keeps draft.old draft.new) }
 {
@@ -70,21 +70,6 @@ fn put_read_bytes(at: u8, stored: Stored, draft: &mut Draft) -> Result<(), Alloc
             )
         }
     }
-}
-
-/// A value that is read goes so far behind the pointer in AX, and is in A or in AX then.
-pub fn put_read_store(at: u8, stored: Stored, draft: &mut Draft) -> Result<(), AllocError>
-    ensures lines { OnOk result (draft.new ≡ with_lines draft.old (read_store_code at stored)) }
-    ensures kept { OnErr result (Keeps draft.old draft.new) }
-{
-    put(
-        draft,
-        &[
-            Do(Sta, ZeroPage, Zero(PTR1)),
-            Do(Stx, ZeroPage, Zero(PTR1 + 1)),
-        ],
-    )?;
-    put_read_bytes(at, stored, draft)
 }
 
 // ptr1 is a pointer that is read; X stays.

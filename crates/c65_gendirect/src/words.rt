@@ -42,7 +42,8 @@ fn put_carry(op: BinaryOp, draft: &mut Draft) -> Result<(), AllocError>
     }
 }
 
-fn put_first_byte(op: BinaryOp, low: OperandByte, draft: &mut Draft) -> Result<(), AllocError>
+/// The low byte of AX by an operator and a byte.
+pub fn put_first_byte(op: BinaryOp, low: OperandByte, draft: &mut Draft) -> Result<(), AllocError>
     ensures lines { OnOk result (draft.new ≡ with_lines draft.old (first_byte_code op low)) }
     ensures kept { OnErr result (Keeps draft.old draft.new) }
 {

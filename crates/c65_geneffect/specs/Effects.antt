@@ -9,7 +9,7 @@ use Rattle.c65_csem.specs.Trees.{Typed, node, Node, convert, comma, assign, assi
 use Rattle.c65_code.specs.declared.line.Line.{Line}
 use Rattle.c65_code.specs.declared.line.Line.TheVariants.{Label}
 use Rattle.c65_genframe.specs.Frames.{Framed}
-use Rattle.c65_genload.specs.declared.places.Place.{Place}
+use Rattle.c65_genexpr.specs.declared.destination.Destination.TheVariants.{Registers, Pointer}
 use Rattle.c65_genexpr.specs.declared.wanted.Wanted.TheVariants.{Value}
 use Rattle.c65_genexpr.specs.Types.{bare, access_of, target_bytes}
 use Rattle.c65_genexpr.specs.Places.{place_of}
@@ -19,35 +19,30 @@ use Rattle.c65_genchange.specs.declared.changes.Change.{Change}
 use Rattle.c65_geneffect.specs.declared.changing.Changing.{Changing}
 use Rattle.c65_geneffect.specs.declared.changing.Changing.TheVariants.{Fixed, Loaded, Otherwise}
 use Rattle.c65_geneffect.specs.declared.changing.Fill.{Fill}
-use Rattle.c65_genchange.specs.Spots.{point_code}
 use Rattle.c65_genchange.specs.Changes.{change_code, fill_code}
 use Rattle.c65_geneffect.specs.Changing.{in_front, stepping_of, changing_of, filling_of}
-use Rattle.c65_geneffect.specs.Setting.{setting_of, below_value, set_by}
+use Rattle.c65_geneffect.specs.Setting.{setting_of, below_value, base_for, set_by}
 
 -- a label of its own, which is placed behind the lines where no form needs it
 abbrev pub closed : ℕ → List Line → List Line
 closed label lines = lines ++ (Label label ∷ [])
 
--- from the lines of the place's base
-abbrev pub fixed_code : Change → Place → ℕ → List Line → List Line
-fixed_code change place label base = base ++ (point_code place ++ change_code change label)
-
--- or of the whole for its value
-abbrev pub stepped_by : Option Change → Place → ℕ → List Line → List Line → List Line
-stepped_by (Some change) place label base whole = fixed_code change place label base
-stepped_by None place label base whole = whole
+-- from the lines of the place's base, which leave the address of what lies anywhere in ptr1, or of the whole for its value
+abbrev pub stepped_by : Option Change → ℕ → List Line → List Line → List Line
+stepped_by (Some change) label base whole = base ++ change_code change label
+stepped_by None label base whole = whole
 
 -- and of the right side; the whole has a label less
-abbrev pub changed_by : Changing → Place → ℕ → List Line → List Line → List Line → List Line
-changed_by (Fixed change) place label left right whole = fixed_code change place label left
-changed_by (Loaded change) place label left right whole = left ++ (right ++ change_code change label)
-changed_by Otherwise place label left right whole = closed label whole
+abbrev pub changed_by : Changing → ℕ → List Line → List Line → List Line → List Line
+changed_by (Fixed change) label left right whole = left ++ change_code change label
+changed_by (Loaded change) label left right whole = left ++ (right ++ change_code change label)
+changed_by Otherwise label left right whole = closed label whole
 
 -- elements have so many bytes; a number has one
 abbrev pub changed_code : Framed → ℕ → ℕ → BinaryOp → ℕ → Typed → Typed → List Line → List Line
 changed_code f pushed fresh op size a b whole =
     let place = place_of f pushed a in
-    changed_by (changing_of op size place (access_of (types_of f.parts.types) a) b) place fresh (base_code f pushed (fresh + 1) a) (expr_code f pushed (fresh + 1 + uses None a) Value b) whole
+    changed_by (changing_of op size place (access_of (types_of f.parts.types) a) b) fresh (base_code f pushed (fresh + 1) Pointer a) (expr_code f pushed (fresh + 1 + uses None a) Value b) whole
 
 -- from the lines of the place's base, or of the whole for its value
 abbrev pub filled_or : Option Fill → List Line → List Line → List Line
@@ -59,12 +54,12 @@ abbrev pub set_code : Framed → ℕ → ℕ → Typed → Typed → List Line �
 set_code f pushed fresh a b whole =
     let place = place_of f pushed a in
     let how = setting_of f pushed place (access_of (types_of f.parts.types) a) b in
-    set_by how place (base_code f pushed fresh a) (expr_code f (below_value how pushed place) (fresh + uses None a) Value b) whole
+    set_by how place (base_code f pushed fresh (base_for how) a) (expr_code f (below_value how pushed place) (fresh + uses None a) Value b) whole
 
 abbrev pub step_effect : Framed → ℕ → ℕ → StepKind → Typed → List Line
 step_effect f pushed fresh how e =
     let place = place_of f pushed e in
-    stepped_by (stepping_of how (target_bytes f (bare e)) place (access_of (types_of f.parts.types) e)) place fresh (base_code f pushed (fresh + 1) e) (step_value_code f pushed fresh (in_front how) e)
+    stepped_by (stepping_of how (target_bytes f (bare e)) place (access_of (types_of f.parts.types) e)) fresh (base_code f pushed (fresh + 1) Pointer e) (step_value_code f pushed fresh (in_front how) e)
 
 abbrev mutual
   pub effect_code : Framed → ℕ → ℕ → Typed → List Line
@@ -76,7 +71,7 @@ abbrev mutual
   node_effect f pushed fresh t (assign a b) =
       let place = place_of f pushed a in
       let access = access_of (types_of f.parts.types) a in
-      let base = base_code f pushed fresh a in
+      let base = base_code f pushed fresh Registers a in
       filled_or (filling_of place access b) base (set_code f pushed fresh a b (node_code f pushed fresh Value t (assign a b)))
   node_effect f pushed fresh t (assign_op op k a b) = changed_code f pushed fresh op 1 a b (node_code f pushed (fresh + 1) Value t (assign_op op k a b))
   node_effect f pushed fresh t (assign_step op a b) = changed_code f pushed fresh op (target_bytes f (bare a)) a b (node_code f pushed (fresh + 1) Value t (assign_step op a b))

@@ -11,8 +11,9 @@ use Rattle.c65_genload.specs.declared.places.Access.TheVariants.{Whole, Part}
 use Rattle.c65_genload.specs.Places.{held}
 use Rattle.c65_genload.specs.Fields.{is_in_byte}
 use Rattle.c65_genload.specs.Loads.{hold_code}
-use Rattle.c65_genchange.specs.Spots.{point_code}
 use Rattle.c65_genfield.specs.Setting.{number_code, behind_code, set_code}
+use Rattle.c65_genexpr.specs.declared.destination.Destination.{Destination}
+use Rattle.c65_genexpr.specs.declared.destination.Destination.TheVariants.{Registers, Pointer}
 use Rattle.c65_genexpr.specs.Places.{more}
 use Rattle.c65_genexpr.specs.Held.{ptr2, keep_code}
 use Rattle.c65_genexpr.specs.Operating.{is_light}
@@ -48,9 +49,14 @@ abbrev pub below_value : Setting → ℕ → Place → ℕ
 below_value (Loaded g) pushed place = more pushed (held place)
 below_value how pushed place = pushed
 
+-- where the address of the place's base comes, of what lies anywhere
+abbrev pub base_for : Setting → Destination
+base_for (Number g n) = Pointer
+base_for how = Registers
+
 -- from the lines of the place's base and of the right side, or of the whole for its value
 abbrev pub set_by : Setting → Place → List Line → List Line → List Line → List Line
-set_by (Number g n) place base right whole = base ++ (point_code place ++ number_code place g n)
+set_by (Number g n) place base right whole = base ++ number_code place g n
 set_by (Held g at) place base right whole = base ++ (keep_code ++ (right ++ behind_code ptr2 at g))
 set_by (Loaded g) place base right whole = base ++ (hold_code place ++ (right ++ set_code place g))
 set_by Otherwise place base right whole = whole

@@ -3,6 +3,7 @@ ghost use Rattle.std.specs.Prelude.{◌≡◌, ◌+◌, None, OnOk, OnErr};
 ghost use Rattle.c65_csem.specs.Views.{typed_of};
 ghost use Rattle.c65_ctype.specs.Views.{types_of};
 ghost use Rattle.c65_genwide.specs.Lines.{grown, Keeps};
+ghost use Rattle.c65_genexpr.specs.declared.destination.Destination.TheVariants.{Registers};
 ghost use Rattle.c65_genexpr.specs.declared.wanted.Wanted.TheVariants.{Value};
 ghost use Rattle.c65_genexpr.specs.Code.{expr_code, base_code};
 ghost use Rattle.c65_genexpr.specs.Places.{place_of};
@@ -17,10 +18,10 @@ use c65_base::{BinaryOp, StepKind};
 use c65_code::Draft;
 use c65_code::Line::Label;
 use c65_csem::{TExpr, TKind};
-use c65_genchange::{put_change, put_fill, put_point};
+use c65_genchange::{put_change, put_fill};
 use c65_genexpr::{
-    PTR2, Wanted, access_of, amount_of, leave_out, more, place_of, put_base, put_expr, put_keep,
-    put_step, target_bytes,
+    Destination, PTR2, Wanted, access_of, amount_of, leave_out, more, place_of, put_base, put_expr,
+    put_keep, put_step, target_bytes,
 };
 use c65_genfield::{put_behind, put_set, put_set_number};
 use c65_genframe::Frame;
@@ -67,13 +68,13 @@ fn put_filled(
     draft: &mut Draft,
 ) -> Result<(), AllocError>
     requires { uses None (typed_of e.now) ≡ uses None (typed_of a.now) + uses None (typed_of b.now) }
-    ensures lines { OnOk result (draft.new ≡ grown draft.old (filled_or (filling_of (place_of frame.now pushed (typed_of a.now)) (access_of (types_of frame.now.parts.types) (typed_of a.now)) (typed_of b.now)) (base_code frame.now pushed draft.old.labels (typed_of a.now)) (set_code frame.now pushed draft.old.labels (typed_of a.now) (typed_of b.now) (expr_code frame.now pushed draft.old.labels Value (typed_of e.now)))) (uses None (typed_of e.now))) }
+    ensures lines { OnOk result (draft.new ≡ grown draft.old (filled_or (filling_of (place_of frame.now pushed (typed_of a.now)) (access_of (types_of frame.now.parts.types) (typed_of a.now)) (typed_of b.now)) (base_code frame.now pushed draft.old.labels Registers (typed_of a.now)) (set_code frame.now pushed draft.old.labels (typed_of a.now) (typed_of b.now) (expr_code frame.now pushed draft.old.labels Value (typed_of e.now)))) (uses None (typed_of e.now))) }
     ensures kept { OnErr result (Keeps draft.old draft.new) }
 {
     let access = access_of(&frame.parts().types, a);
     match filling_of(frame, pushed, access, a, b) {
         Some(fill) => {
-            put_base(a, frame, pushed, draft)?;
+            put_base(a, Destination::Registers, frame, pushed, draft)?;
             leave_out(b, Wanted::Value, draft)?;
             put_fill(fill.byte, fill.low, fill.high, draft)
         }
@@ -99,19 +100,18 @@ fn put_field_set(
     let access = access_of(&frame.parts().types, a);
     match setting_of(frame, pushed, access, a, b) {
         Setting::Number(field, number) => {
-            put_base(a, frame, pushed, draft)?;
+            put_base(a, Destination::Pointer, frame, pushed, draft)?;
             leave_out(b, Wanted::Value, draft)?;
-            put_point(place, draft)?;
             put_set_number(place, field, number, draft)
         }
         Setting::Held(field, at) => {
-            put_base(a, frame, pushed, draft)?;
+            put_base(a, Destination::Registers, frame, pushed, draft)?;
             put_keep(draft)?;
             put_expr(b, frame, pushed, draft)?;
             put_behind(PTR2, at, field, draft)
         }
         Setting::Loaded(field) => {
-            put_base(a, frame, pushed, draft)?;
+            put_base(a, Destination::Registers, frame, pushed, draft)?;
             hold(place, draft)?;
             put_expr(b, frame, more(pushed, held(place)), draft)?;
             put_set(place, field, draft)
@@ -141,13 +141,12 @@ fn put_changed(
     let access = access_of(&frame.parts().types, a);
     match changing_of(op, size, frame, pushed, access, a, b) {
         Changing::Fixed(change) => {
-            put_base(a, frame, pushed, draft)?;
+            put_base(a, Destination::Pointer, frame, pushed, draft)?;
             leave_out(b, Wanted::Value, draft)?;
-            put_point(place, draft)?;
             put_change(change, label, draft)
         }
         Changing::Loaded(change) => {
-            put_base(a, frame, pushed, draft)?;
+            put_base(a, Destination::Pointer, frame, pushed, draft)?;
             put_expr(b, frame, pushed, draft)?;
             put_change(change, label, draft)
         }
@@ -174,14 +173,14 @@ fn put_stepped(
     let place = place_of(frame, pushed, a);
     let access = access_of(&frame.parts().types, a);
     let size = target_bytes(frame, &a.ty.ty);
-    put_base(a, frame, pushed, draft)?;
     match stepping_of(how, size, place, access) {
         Some(change) => {
-            put_point(place, draft)?;
+            put_base(a, Destination::Pointer, frame, pushed, draft)?;
             put_change(change, label, draft)
         }
         None => {
             let front = in_front(how);
+            put_base(a, Destination::Registers, frame, pushed, draft)?;
             let amount = amount_of(frame, front, &a.ty.ty);
             put_step(front, size, amount, place, access, label, draft)
         }

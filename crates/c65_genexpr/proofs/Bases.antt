@@ -7,6 +7,7 @@ use Rattle.c65_code.specs.Segments.{Drafted}
 use Rattle.c65_code.specs.declared.line.Line.{Line}
 use Rattle.c65_genframe.specs.Frames.{Framed}
 use Rattle.c65_genwide.specs.Lines.{grown}
+use Rattle.c65_genexpr.specs.declared.destination.Destination.{Destination}
 use Rattle.c65_genexpr.specs.Types.{bare}
 use Rattle.c65_genexpr.specs.Operands.{operands_of, constant_in}
 use Rattle.c65_genexpr.specs.Places.{added_bytes, sum_has_base, target_of}
@@ -14,61 +15,61 @@ use Rattle.c65_genexpr.specs.Uses.{uses}
 use Rattle.c65_genexpr.specs.Code.{base_code, base_lines, pointer_base_code, pointer_lines, pointer_labels}
 use Rattle.c65_genexpr.proofs.Known.{sum_uses}
 
-base_is : (f : Framed) (pushed fresh : ℕ) (e : Typed) → base_lines f pushed fresh e ≡ base_code f pushed fresh e
-base_is f pushed fresh (node t (constant z)) = refl
-base_is f pushed fresh (node t null) = refl
-base_is f pushed fresh (node t (literal n)) = refl
-base_is f pushed fresh (node t (object i)) = refl
-base_is f pushed fresh (node t (func i)) = refl
-base_is f pushed fresh (node t (deref e)) = refl
-base_is f pushed fresh (node t (member e m)) = refl
-base_is f pushed fresh (node t (load e)) = refl
-base_is f pushed fresh (node t (address e)) = refl
-base_is f pushed fresh (node t (decay e)) = refl
-base_is f pushed fresh (node t (convert e)) = refl
-base_is f pushed fresh (node t (unary op e)) = refl
-base_is f pushed fresh (node t (binary op a b)) = refl
-base_is f pushed fresh (node t (both a b)) = refl
-base_is f pushed fresh (node t (either a b)) = refl
-base_is f pushed fresh (node t (choice c a b)) = refl
-base_is f pushed fresh (node t (comma a b)) = refl
-base_is f pushed fresh (node t (assign a b)) = refl
-base_is f pushed fresh (node t (assign_op op k a b)) = refl
-base_is f pushed fresh (node t (assign_step op a b)) = refl
-base_is f pushed fresh (node t (step how e)) = refl
-base_is f pushed fresh (node t (copy a b)) = refl
-base_is f pushed fresh (node t (call g es)) = refl
-base_is f pushed fresh (node t (pack e)) = refl
-base_is f pushed fresh (node t (spill i e)) = refl
-base_is f pushed fresh (node t rest) = refl
+base_is : (f : Framed) (pushed fresh : ℕ) (d : Destination) (e : Typed) → base_lines f pushed fresh d e ≡ base_code f pushed fresh d e
+base_is f pushed fresh d (node t (constant z)) = refl
+base_is f pushed fresh d (node t null) = refl
+base_is f pushed fresh d (node t (literal n)) = refl
+base_is f pushed fresh d (node t (object i)) = refl
+base_is f pushed fresh d (node t (func i)) = refl
+base_is f pushed fresh d (node t (deref e)) = refl
+base_is f pushed fresh d (node t (member e m)) = refl
+base_is f pushed fresh d (node t (load e)) = refl
+base_is f pushed fresh d (node t (address e)) = refl
+base_is f pushed fresh d (node t (decay e)) = refl
+base_is f pushed fresh d (node t (convert e)) = refl
+base_is f pushed fresh d (node t (unary op e)) = refl
+base_is f pushed fresh d (node t (binary op a b)) = refl
+base_is f pushed fresh d (node t (both a b)) = refl
+base_is f pushed fresh d (node t (either a b)) = refl
+base_is f pushed fresh d (node t (choice c a b)) = refl
+base_is f pushed fresh d (node t (comma a b)) = refl
+base_is f pushed fresh d (node t (assign a b)) = refl
+base_is f pushed fresh d (node t (assign_op op k a b)) = refl
+base_is f pushed fresh d (node t (assign_step op a b)) = refl
+base_is f pushed fresh d (node t (step how e)) = refl
+base_is f pushed fresh d (node t (copy a b)) = refl
+base_is f pushed fresh d (node t (call g es)) = refl
+base_is f pushed fresh d (node t (pack e)) = refl
+base_is f pushed fresh d (node t (spill i e)) = refl
+base_is f pushed fresh d (node t rest) = refl
 
-pointer_is : (f : Framed) (pushed fresh : ℕ) (e : Typed) → pointer_lines f pushed fresh e ≡ pointer_base_code f pushed fresh e
-pointer_is f pushed fresh (node t (constant z)) = refl
-pointer_is f pushed fresh (node t null) = refl
-pointer_is f pushed fresh (node t (literal n)) = refl
-pointer_is f pushed fresh (node t (object i)) = refl
-pointer_is f pushed fresh (node t (func i)) = refl
-pointer_is f pushed fresh (node t (deref e)) = refl
-pointer_is f pushed fresh (node t (member e m)) = refl
-pointer_is f pushed fresh (node t (load e)) = refl
-pointer_is f pushed fresh (node t (address e)) = refl
-pointer_is f pushed fresh (node t (decay e)) = refl
-pointer_is f pushed fresh (node t (convert e)) = refl
-pointer_is f pushed fresh (node t (unary op e)) = refl
-pointer_is f pushed fresh (node t (binary op a b)) = refl
-pointer_is f pushed fresh (node t (both a b)) = refl
-pointer_is f pushed fresh (node t (either a b)) = refl
-pointer_is f pushed fresh (node t (choice c a b)) = refl
-pointer_is f pushed fresh (node t (comma a b)) = refl
-pointer_is f pushed fresh (node t (assign a b)) = refl
-pointer_is f pushed fresh (node t (assign_op op k a b)) = refl
-pointer_is f pushed fresh (node t (assign_step op a b)) = refl
-pointer_is f pushed fresh (node t (step how e)) = refl
-pointer_is f pushed fresh (node t (copy a b)) = refl
-pointer_is f pushed fresh (node t (call g es)) = refl
-pointer_is f pushed fresh (node t (pack e)) = refl
-pointer_is f pushed fresh (node t (spill i e)) = refl
-pointer_is f pushed fresh (node t rest) = refl
+pointer_is : (f : Framed) (pushed fresh : ℕ) (d : Destination) (e : Typed) → pointer_lines f pushed fresh d e ≡ pointer_base_code f pushed fresh d e
+pointer_is f pushed fresh d (node t (constant z)) = refl
+pointer_is f pushed fresh d (node t null) = refl
+pointer_is f pushed fresh d (node t (literal n)) = refl
+pointer_is f pushed fresh d (node t (object i)) = refl
+pointer_is f pushed fresh d (node t (func i)) = refl
+pointer_is f pushed fresh d (node t (deref e)) = refl
+pointer_is f pushed fresh d (node t (member e m)) = refl
+pointer_is f pushed fresh d (node t (load e)) = refl
+pointer_is f pushed fresh d (node t (address e)) = refl
+pointer_is f pushed fresh d (node t (decay e)) = refl
+pointer_is f pushed fresh d (node t (convert e)) = refl
+pointer_is f pushed fresh d (node t (unary op e)) = refl
+pointer_is f pushed fresh d (node t (binary op a b)) = refl
+pointer_is f pushed fresh d (node t (both a b)) = refl
+pointer_is f pushed fresh d (node t (either a b)) = refl
+pointer_is f pushed fresh d (node t (choice c a b)) = refl
+pointer_is f pushed fresh d (node t (comma a b)) = refl
+pointer_is f pushed fresh d (node t (assign a b)) = refl
+pointer_is f pushed fresh d (node t (assign_op op k a b)) = refl
+pointer_is f pushed fresh d (node t (assign_step op a b)) = refl
+pointer_is f pushed fresh d (node t (step how e)) = refl
+pointer_is f pushed fresh d (node t (copy a b)) = refl
+pointer_is f pushed fresh d (node t (call g es)) = refl
+pointer_is f pushed fresh d (node t (pack e)) = refl
+pointer_is f pushed fresh d (node t (spill i e)) = refl
+pointer_is f pushed fresh d (node t rest) = refl
 
 if_same : (b : Bool) (m n : ℕ) → (b ≡ true → n ≡ m) → (if b then m else n) ≡ n
 if_same true m n same = sym (same refl)
@@ -103,10 +104,10 @@ labels_are f pushed (node t (pack e)) = refl
 labels_are f pushed (node t (spill i e)) = refl
 labels_are f pushed (node t rest) = refl
 
-pub based : {A E : Type 0} (r : Result A E) (d g : Drafted) (f : Framed) (pushed fresh : ℕ) (e : Typed) → OnOk r (g ≡ grown d (base_lines f pushed fresh e) (uses None e)) → OnOk r (g ≡ grown d (base_code f pushed fresh e) (uses None e))
-based r d g f pushed fresh e h = subst (λ (x : List Line). OnOk r (g ≡ grown d x (uses None e))) (base_is f pushed fresh e) h
+pub based : {A E : Type 0} (r : Result A E) (g h : Drafted) (f : Framed) (pushed fresh : ℕ) (d : Destination) (e : Typed) → OnOk r (h ≡ grown g (base_lines f pushed fresh d e) (uses None e)) → OnOk r (h ≡ grown g (base_code f pushed fresh d e) (uses None e))
+based r g h f pushed fresh d e on = subst (λ (x : List Line). OnOk r (h ≡ grown g x (uses None e))) (base_is f pushed fresh d e) on
 
-pub pointed : {A E : Type 0} (r : Result A E) (d g : Drafted) (f : Framed) (pushed fresh : ℕ) (e : Typed) → OnOk r (g ≡ grown d (pointer_lines f pushed fresh e) (pointer_labels f pushed e)) → OnOk r (g ≡ grown d (pointer_base_code f pushed fresh e) (uses None e))
-pointed r d g f pushed fresh e h =
-    subst (λ (n : ℕ). OnOk r (g ≡ grown d (pointer_base_code f pushed fresh e) n)) (labels_are f pushed e)
-    (subst (λ (x : List Line). OnOk r (g ≡ grown d x (pointer_labels f pushed e))) (pointer_is f pushed fresh e) h)
+pub pointed : {A E : Type 0} (r : Result A E) (g h : Drafted) (f : Framed) (pushed fresh : ℕ) (d : Destination) (e : Typed) → OnOk r (h ≡ grown g (pointer_lines f pushed fresh d e) (pointer_labels f pushed e)) → OnOk r (h ≡ grown g (pointer_base_code f pushed fresh d e) (uses None e))
+pointed r g h f pushed fresh d e on =
+    subst (λ (n : ℕ). OnOk r (h ≡ grown g (pointer_base_code f pushed fresh d e) n)) (labels_are f pushed e)
+    (subst (λ (x : List Line). OnOk r (h ≡ grown g x (pointer_labels f pushed e))) (pointer_is f pushed fresh d e) on)

@@ -27,12 +27,14 @@ use Rattle.c65_genload.specs.Places.{held, type_in, extent_of, extent_by}
 use Rattle.c65_genload.specs.Numbers.{number_code}
 use Rattle.c65_genload.specs.Conversions.{push_code, waiting}
 use Rattle.c65_genload.specs.Addresses.{symbol_code, offset_code}
-use Rattle.c65_genload.specs.Loads.{bytes_code, load_code}
+use Rattle.c65_genload.specs.Loads.{bytes_code}
 use Rattle.c65_genload.specs.Stores.{copy_code}
 use Rattle.c65_gendirect.specs.declared.direct.Direct.{Direct}
 use Rattle.c65_gendirect.specs.declared.relation.Relation.{Relation}
 use Rattle.c65_gendirect.specs.Compare.{relation_of}
 use Rattle.c65_gendirect.specs.Tests.{zero_test_code, truth_code}
+use Rattle.c65_genexpr.specs.declared.destination.Destination.{Destination}
+use Rattle.c65_genexpr.specs.declared.destination.Destination.TheVariants.{Registers}
 use Rattle.c65_genexpr.specs.declared.wanted.Wanted.{Wanted}
 use Rattle.c65_genexpr.specs.declared.wanted.Wanted.TheVariants.{Value, Test}
 use Rattle.c65_genexpr.specs.declared.operands.Operands.{Operands}
@@ -45,10 +47,11 @@ use Rattle.c65_genexpr.specs.Spills.{spill_code}
 use Rattle.c65_genexpr.specs.Operands.{residue_of, constant_in, operands_of, computes, unary_code, same_truth, conversion_by}
 use Rattle.c65_genfield.specs.Bits.{byte_field}
 use Rattle.c65_genexpr.specs.Direct.{kept_at, own_bytes}
+use Rattle.c65_genexpr.specs.Destination.{arrived, destination_of, fetch_code}
 use Rattle.c65_genexpr.specs.Fields.{loaded_test}
 use Rattle.c65_genexpr.specs.Comparing.{relation_by, tested_by, comparing_of, below_side, comparison_by}
 use Rattle.c65_genexpr.specs.Operating.{operating_of, below_operand, operator_by}
-use Rattle.c65_genexpr.specs.Storing.{storing_of, below_value, assigned_by}
+use Rattle.c65_genexpr.specs.Storing.{storing_of, below_value, base_for, assigned_by}
 use Rattle.c65_genexpr.specs.Steps.{amount_of, step_code, open_code, close_code}
 use Rattle.c65_genexpr.specs.Arguments.{is_fast, is_counted, stays, passed_size, passed_of, argument_code, argument_bytes}
 use Rattle.c65_genexpr.specs.Calls.{named, named_code, pointer_code, direct_code}
@@ -70,7 +73,7 @@ tested_load None kind s to base test = base ++ test
 
 -- behind the base of a place
 abbrev pub load_by : Wanted → Place → Access → List Line → List Line
-load_by Value place access base = base ++ load_code place access
+load_by Value place access base = base ++ fetch_code place access
 load_by (Test to s) place access base = tested_load (kept_at place access) (type_in access) s to base (loaded_test (byte_field access) place access s to)
 
 -- the bytes that wait for the right side of a compound assignment
@@ -103,7 +106,9 @@ abbrev mutual
   node_code f pushed fresh w t (func i) = wanted w (width_in t) (symbol_code (function_symbol (numbers_of f.parts) i) 0)
   node_code f pushed fresh w t (deref e) = wanted w (width_in t) (expr_code f pushed fresh Value e)
   node_code f pushed fresh w t (member e m) = wanted w (width_in t) (expr_code f pushed fresh Value e ++ offset_code (offset_at (types_of f.parts.types) (bare e) m))
-  node_code f pushed fresh w t (load e) = load_by w (place_of f pushed e) (access_of (types_of f.parts.types) e) (base_code f pushed fresh e)
+  node_code f pushed fresh w t (load e) =
+      let access = access_of (types_of f.parts.types) e in
+      load_by w (place_of f pushed e) access (base_code f pushed fresh (destination_of access) e)
   node_code f pushed fresh w t (address e) = wanted w (width_in t) (expr_code f pushed fresh Value e)
   node_code f pushed fresh w t (decay e) = wanted w (width_in t) (expr_code f pushed fresh Value e)
   node_code f pushed fresh w t (convert e) =
@@ -118,7 +123,7 @@ abbrev mutual
       let bytes = waiting (width_of (computes operands)) in
       by_relation (relation_of op)
       (let how = operating_of f pushed op operands a b in
-      wanted w (width_in t) (operator_by how op operands (kind_in b) fresh (expr_code f pushed (fresh + 1) Value a) (expr_code f (below_operand how pushed bytes) (fresh + 1 + uses None a) Value b)))
+      wanted w (width_in t) (operator_by Registers how op operands (kind_in b) fresh (expr_code f pushed (fresh + 1) Value a) (expr_code f (below_operand how pushed bytes) (fresh + 1 + uses None a) Value b)))
       (λ r.
       let q = relation_by (sense w) r in
       let how = comparing_of f pushed q (computes operands) a b in
@@ -142,40 +147,46 @@ abbrev mutual
   node_code f pushed fresh w t (assign a b) =
       let place = place_of f pushed a in
       let how = storing_of f pushed a b in
-      wanted w (width_in t) (assigned_by how place (access_of (types_of f.parts.types) a) (base_code f pushed fresh a) (expr_code f (below_value how pushed place) (fresh + uses None a) Value b))
-  node_code f pushed fresh w t (assign_op op k a b) = wanted w (width_in t) (compound f pushed op (Numbers k) a b (base_code f pushed fresh a) (expr_code f (behind_open f pushed (Numbers k) a) (fresh + uses None a) Value b))
+      wanted w (width_in t) (assigned_by how place (access_of (types_of f.parts.types) a) (base_code f pushed fresh (base_for how) a) (expr_code f (below_value how pushed place) (fresh + uses None a) Value b))
+  node_code f pushed fresh w t (assign_op op k a b) = wanted w (width_in t) (compound f pushed op (Numbers k) a b (base_code f pushed fresh Registers a) (expr_code f (behind_open f pushed (Numbers k) a) (fresh + uses None a) Value b))
   node_code f pushed fresh w t (assign_step op a b) =
       let operands = PointerFirst (target_bytes f (bare a)) in
-      wanted w (width_in t) (compound f pushed op operands a b (base_code f pushed fresh a) (expr_code f (behind_open f pushed operands a) (fresh + uses None a) Value b))
+      wanted w (width_in t) (compound f pushed op operands a b (base_code f pushed fresh Registers a) (expr_code f (behind_open f pushed operands a) (fresh + uses None a) Value b))
   node_code f pushed fresh w t (step how e) =
-      wanted w (width_in t) (base_code f pushed (fresh + 1) e ++ step_code how (target_bytes f (bare e)) (amount_of f how (bare e)) (place_of f pushed e) (access_of (types_of f.parts.types) e) fresh)
+      wanted w (width_in t) (base_code f pushed (fresh + 1) Registers e ++ step_code how (target_bytes f (bare e)) (amount_of f how (bare e)) (place_of f pushed e) (access_of (types_of f.parts.types) e) fresh)
   node_code f pushed fresh w t (copy a b) =
       wanted w (width_in t) (expr_code f pushed fresh Value a ++ (push_code Ax ++ (expr_code f (more pushed 2) (fresh + uses None a) Value b ++ copy_code (type_bytes f (types.type_in t)))))
   node_code f pushed fresh w t (call g es) =
       wanted w (width_in t) (call_by f (named g) (outcome_of f (types.type_in t)) g es (expr_code f pushed fresh Value g) (args_code f pushed fresh (is_fast (bare g)) es) (args_code f (more pushed 2) (fresh + uses None g) (is_fast (bare g)) es))
   node_code f pushed fresh w t (pack e) =
-      wanted w (width_in t) (base_code f pushed fresh e ++ bytes_code (place_of f pushed e) (extent_by (type_bytes f (types.type_in t))))
+      wanted w (width_in t) (base_code f pushed fresh Registers e ++ bytes_code (place_of f pushed e) (extent_by (type_bytes f (types.type_in t))))
   node_code f pushed fresh w t (spill i e) = wanted w (width_in t) (expr_code f pushed fresh Value e ++ spill_code (object_code f pushed i) (extent_by (type_bytes f (types.type_in t))))
   node_code f pushed fresh w t rest = wanted w (width_in t) (rest_code f pushed)
 
-  -- the address behind which a place lies, as far as it tells; of one that is known only the labels of the sums that tell it
-  pub base_code : Framed → ℕ → ℕ → Typed → List Line
-  base_code f pushed fresh (node t (literal n)) = []
-  base_code f pushed fresh (node t (object i)) = target_code (object_place f pushed i) (object_code f pushed i)
-  base_code f pushed fresh (node t (deref e)) = pointer_base_code f pushed fresh e
-  base_code f pushed fresh (node t (member e m)) =
+  -- the address behind which a place lies, as far as it tells, comes to where it is wanted; of one that is known only the labels of the
+  -- sums that tell it
+  pub base_code : Framed → ℕ → ℕ → Destination → Typed → List Line
+  base_code f pushed fresh d (node t (literal n)) = []
+  base_code f pushed fresh d (node t (object i)) = target_code (object_place f pushed i) (object_code f pushed i ++ arrived d)
+  base_code f pushed fresh d (node t (deref e)) = pointer_base_code f pushed fresh d e
+  base_code f pushed fresh d (node t (member e m)) =
       let n = offset_at (types_of f.parts.types) (bare e) m in
-      if has_base (place_of f pushed e) n then base_code f pushed fresh e else expr_code f pushed fresh Value e ++ offset_code n
-  base_code f pushed fresh (node t n) = node_code f pushed fresh Value t n
+      if has_base (place_of f pushed e) n then base_code f pushed fresh d e else expr_code f pushed fresh Value e ++ (offset_code n ++ arrived d)
+  base_code f pushed fresh d (node t n) = node_code f pushed fresh Value t n ++ arrived d
 
   -- the same of a pointer; the label of a sum that is left out is placed all the same
-  pub pointer_base_code : Framed → ℕ → ℕ → Typed → List Line
-  pointer_base_code f pushed fresh (node t (binary op a b)) =
-      if sum_has_base (target_of f pushed a) (added_bytes op (operands_of f (bare a) (bare b)) (constant_in b)) then Label fresh ∷ pointer_base_code f pushed (fresh + 1) a
-      else node_code f pushed fresh Value t (binary op a b)
-  pointer_base_code f pushed fresh (node t (address e)) = base_code f pushed fresh e
-  pointer_base_code f pushed fresh (node t (decay e)) = base_code f pushed fresh e
-  pointer_base_code f pushed fresh (node t n) = node_code f pushed fresh Value t n
+  pub pointer_base_code : Framed → ℕ → ℕ → Destination → Typed → List Line
+  pointer_base_code f pushed fresh d (node t (binary op a b)) =
+      let operands = operands_of f (bare a) (bare b) in
+      let how = operating_of f pushed op operands a b in
+      let bytes = waiting (width_of (computes operands)) in
+      if sum_has_base (target_of f pushed a) (added_bytes op operands (constant_in b)) then Label fresh ∷ pointer_base_code f pushed (fresh + 1) d a
+      else by_relation (relation_of op)
+      (operator_by d how op operands (kind_in b) fresh (expr_code f pushed (fresh + 1) Value a) (expr_code f (below_operand how pushed bytes) (fresh + 1 + uses None a) Value b))
+      (λ r. node_code f pushed fresh Value t (binary op a b) ++ arrived d)
+  pointer_base_code f pushed fresh d (node t (address e)) = base_code f pushed fresh d e
+  pointer_base_code f pushed fresh d (node t (decay e)) = base_code f pushed fresh d e
+  pointer_base_code f pushed fresh d (node t n) = node_code f pushed fresh Value t n ++ arrived d
 
   -- arguments from left to right
   pub args_code : Framed → ℕ → ℕ → Bool → Nodes → List Line
@@ -187,11 +198,11 @@ abbrev mutual
 
 -- ---- the same by construct
 
-abbrev pub operator_code : Framed → ℕ → ℕ → BinaryOp → Typed → Typed → List Line
-operator_code f pushed fresh op a b =
+abbrev pub operator_code : Framed → ℕ → ℕ → Destination → BinaryOp → Typed → Typed → List Line
+operator_code f pushed fresh d op a b =
     let operands = operands_of f (bare a) (bare b) in
     let how = operating_of f pushed op operands a b in
-    operator_by how op operands (kind_in b) fresh (expr_code f pushed (fresh + 1) Value a) (expr_code f (below_operand how pushed (waiting (width_of (computes operands)))) (fresh + 1 + uses None a) Value b)
+    operator_by d how op operands (kind_in b) fresh (expr_code f pushed (fresh + 1) Value a) (expr_code f (below_operand how pushed (waiting (width_of (computes operands)))) (fresh + 1 + uses None a) Value b)
 
 -- where the truth of a comparison is s, to a label
 abbrev pub comparison_code : Framed → ℕ → ℕ → ℕ → Bool → BinaryOp → Relation → Typed → Typed → List Line
@@ -218,32 +229,37 @@ joint_code f pushed own to s stop a b =
     joined straight own (expr_code f pushed first (Test (way straight to own) stop) a) (expr_code f pushed (first + uses (Some stop) a) (Test to s) b)
 
 abbrev pub load_test_code : Framed → ℕ → ℕ → ℕ → Bool → Typed → List Line
-load_test_code f pushed fresh to s e = load_by (Test to s) (place_of f pushed e) (access_of (types_of f.parts.types) e) (base_code f pushed fresh e)
+load_test_code f pushed fresh to s e =
+    let access = access_of (types_of f.parts.types) e in
+    load_by (Test to s) (place_of f pushed e) access (base_code f pushed fresh (destination_of access) e)
 
 -- the base of a part, so far behind the beginning
-abbrev pub part_base_code : Framed → ℕ → ℕ → ℕ → Typed → List Line
-part_base_code f pushed fresh n e = if has_base (place_of f pushed e) n then base_code f pushed fresh e else expr_code f pushed fresh Value e ++ offset_code n
+abbrev pub part_base_code : Framed → ℕ → ℕ → Destination → ℕ → Typed → List Line
+part_base_code f pushed fresh d n e = if has_base (place_of f pushed e) n then base_code f pushed fresh d e else expr_code f pushed fresh Value e ++ (offset_code n ++ arrived d)
 
-abbrev pub node_base_code : Framed → ℕ → ℕ → QTy → Node → List Line
-node_base_code f pushed fresh t (literal n) = []
-node_base_code f pushed fresh t (object i) = target_code (object_place f pushed i) (object_code f pushed i)
-node_base_code f pushed fresh t (deref e) = pointer_base_code f pushed fresh e
-node_base_code f pushed fresh t (member e m) = part_base_code f pushed fresh (offset_at (types_of f.parts.types) (bare e) m) e
-node_base_code f pushed fresh t n = node_code f pushed fresh Value t n
+abbrev pub node_base_code : Framed → ℕ → ℕ → Destination → QTy → Node → List Line
+node_base_code f pushed fresh d t (literal n) = []
+node_base_code f pushed fresh d t (object i) = target_code (object_place f pushed i) (object_code f pushed i ++ arrived d)
+node_base_code f pushed fresh d t (deref e) = pointer_base_code f pushed fresh d e
+node_base_code f pushed fresh d t (member e m) = part_base_code f pushed fresh d (offset_at (types_of f.parts.types) (bare e) m) e
+node_base_code f pushed fresh d t n = node_code f pushed fresh Value t n ++ arrived d
 
-abbrev pub base_lines : Framed → ℕ → ℕ → Typed → List Line
-base_lines f pushed fresh (node t n) = node_base_code f pushed fresh t n
+abbrev pub base_lines : Framed → ℕ → ℕ → Destination → Typed → List Line
+base_lines f pushed fresh d (node t n) = node_base_code f pushed fresh d t n
 
 -- the base of a pointer, and how many labels it has
-abbrev pub node_pointer_code : Framed → ℕ → ℕ → QTy → Node → List Line
-node_pointer_code f pushed fresh t (binary op a b) =
-    if sum_has_base (target_of f pushed a) (added_bytes op (operands_of f (bare a) (bare b)) (constant_in b)) then Label fresh ∷ pointer_base_code f pushed (fresh + 1) a else node_code f pushed fresh Value t (binary op a b)
-node_pointer_code f pushed fresh t (address e) = base_code f pushed fresh e
-node_pointer_code f pushed fresh t (decay e) = base_code f pushed fresh e
-node_pointer_code f pushed fresh t n = node_code f pushed fresh Value t n
+abbrev pub sum_base_code : Framed → ℕ → ℕ → Destination → QTy → BinaryOp → Typed → Typed → List Line
+sum_base_code f pushed fresh d t op a b = by_relation (relation_of op) (operator_code f pushed fresh d op a b) (λ r. node_code f pushed fresh Value t (binary op a b) ++ arrived d)
 
-abbrev pub pointer_lines : Framed → ℕ → ℕ → Typed → List Line
-pointer_lines f pushed fresh (node t n) = node_pointer_code f pushed fresh t n
+abbrev pub node_pointer_code : Framed → ℕ → ℕ → Destination → QTy → Node → List Line
+node_pointer_code f pushed fresh d t (binary op a b) =
+    if sum_has_base (target_of f pushed a) (added_bytes op (operands_of f (bare a) (bare b)) (constant_in b)) then Label fresh ∷ pointer_base_code f pushed (fresh + 1) d a else sum_base_code f pushed fresh d t op a b
+node_pointer_code f pushed fresh d t (address e) = base_code f pushed fresh d e
+node_pointer_code f pushed fresh d t (decay e) = base_code f pushed fresh d e
+node_pointer_code f pushed fresh d t n = node_code f pushed fresh Value t n ++ arrived d
+
+abbrev pub pointer_lines : Framed → ℕ → ℕ → Destination → Typed → List Line
+pointer_lines f pushed fresh d (node t n) = node_pointer_code f pushed fresh d t n
 
 abbrev pub node_pointer_uses : Framed → ℕ → QTy → Node → ℕ
 node_pointer_uses f pushed t (binary op a b) =
@@ -262,13 +278,13 @@ abbrev pub assign_code : Framed → ℕ → ℕ → Typed → Typed → List Lin
 assign_code f pushed fresh a b =
     let place = place_of f pushed a in
     let how = storing_of f pushed a b in
-    assigned_by how place (access_of (types_of f.parts.types) a) (base_code f pushed fresh a) (expr_code f (below_value how pushed place) (fresh + uses None a) Value b)
+    assigned_by how place (access_of (types_of f.parts.types) a) (base_code f pushed fresh (base_for how) a) (expr_code f (below_value how pushed place) (fresh + uses None a) Value b)
 
 abbrev pub step_value_code : Framed → ℕ → ℕ → StepKind → Typed → List Line
-step_value_code f pushed fresh how e = base_code f pushed (fresh + 1) e ++ step_code how (target_bytes f (bare e)) (amount_of f how (bare e)) (place_of f pushed e) (access_of (types_of f.parts.types) e) fresh
+step_value_code f pushed fresh how e = base_code f pushed (fresh + 1) Registers e ++ step_code how (target_bytes f (bare e)) (amount_of f how (bare e)) (place_of f pushed e) (access_of (types_of f.parts.types) e) fresh
 
 abbrev pub compound_code : Framed → ℕ → ℕ → BinaryOp → Operands → Typed → Typed → List Line
-compound_code f pushed fresh op operands a b = compound f pushed op operands a b (base_code f pushed fresh a) (expr_code f (behind_open f pushed operands a) (fresh + uses None a) Value b)
+compound_code f pushed fresh op operands a b = compound f pushed op operands a b (base_code f pushed fresh Registers a) (expr_code f (behind_open f pushed operands a) (fresh + uses None a) Value b)
 
 abbrev pub call_code : Framed → ℕ → ℕ → Outcome → Typed → Nodes → List Line
 call_code f pushed fresh given g es = call_by f (named g) given g es (expr_code f pushed fresh Value g) (args_code f pushed fresh (is_fast (bare g)) es) (args_code f (more pushed 2) (fresh + uses None g) (is_fast (bare g)) es)

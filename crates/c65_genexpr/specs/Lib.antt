@@ -2,6 +2,7 @@ pub mod Arguments
 pub mod Calls
 pub mod Code
 pub mod Comparing
+pub mod Destination
 pub mod Direct
 pub mod Fields
 pub mod Held

@@ -29,14 +29,18 @@ use Rattle.c65_gendirect.specs.declared.bytes.OperandByte.{OperandByte}
 use Rattle.c65_gendirect.specs.declared.direct.Direct.{Direct}
 use Rattle.c65_gendirect.specs.Bytes.{byte_of}
 use Rattle.c65_gendirect.specs.Words.{word_code, add_number_code, taken_from_code, long_mask_code}
+use Rattle.c65_gendirect.specs.Pointed.{pointer_code, pointed_sum_code}
 use Rattle.c65_genshift.specs.Quick.{quick_of, quick_code, elements_code}
 use Rattle.c65_genshift.specs.Shifts.{labelled}
+use Rattle.c65_genexpr.specs.declared.destination.Destination.{Destination}
+use Rattle.c65_genexpr.specs.declared.destination.Destination.TheVariants.{Registers, Pointer}
 use Rattle.c65_genexpr.specs.declared.operands.Operands.{Operands}
 use Rattle.c65_genexpr.specs.declared.operands.Operands.TheVariants.{Numbers, PointerFirst, PointerLast, Pointers}
 use Rattle.c65_genexpr.specs.declared.operating.Form.{Form}
 use Rattle.c65_genexpr.specs.declared.operating.Form.TheVariants.{Sum, LongSum, Mask, Constant, Word, Under, Indexed, Distance, DistanceUnder}
 use Rattle.c65_genexpr.specs.declared.operating.Operating.{Operating}
 use Rattle.c65_genexpr.specs.declared.operating.Operating.TheVariants.{Left, Right, Held, Stacked}
+use Rattle.c65_genexpr.specs.Destination.{arrived}
 use Rattle.c65_genexpr.specs.Operands.{residue_of, negative, constant_in, operands_of, between_code, behind_code}
 use Rattle.c65_genexpr.specs.Types.{kind_of, kind_in, bare, access_of}
 use Rattle.c65_genexpr.specs.Places.{more, object_place, place_of}
@@ -260,16 +264,30 @@ placed Sub label = []
 placed op label = Label label ∷ []
 
 -- behind the operand that is in the primary register; the label is the operator's own, and is placed once
-abbrev pub form_code : Form → ℕ → List Line
-form_code (Sum n) label = add_number_code n label
-form_code (LongSum n) label = labelled label (add_long_code n)
-form_code (Mask op n) label = labelled label (long_mask_code op n)
-form_code (Constant kind quick) label = quick_code kind quick label
-form_code (Word op low high) label = word_code op low high label ++ placed op label
-form_code (Under low high) label = labelled label (taken_from_code low high)
-form_code (Indexed size low high) label = elements_code size ++ word_code Add low high label
-form_code (Distance size low high) label = word_code Sub low high label ++ divide_code size
-form_code (DistanceUnder size low high) label = labelled label (taken_from_code low high ++ divide_code size)
+abbrev pub value_form : Form → ℕ → List Line
+value_form (Sum n) label = add_number_code n label
+value_form (LongSum n) label = labelled label (add_long_code n)
+value_form (Mask op n) label = labelled label (long_mask_code op n)
+value_form (Constant kind quick) label = quick_code kind quick label
+value_form (Word op low high) label = word_code op low high label ++ placed op label
+value_form (Under low high) label = labelled label (taken_from_code low high)
+value_form (Indexed size low high) label = elements_code size ++ word_code Add low high label
+value_form (Distance size low high) label = word_code Sub low high label ++ divide_code size
+value_form (DistanceUnder size low high) label = labelled label (taken_from_code low high ++ divide_code size)
+
+abbrev pub pointed_word : BinaryOp → OperandByte → OperandByte → ℕ → List Line
+pointed_word Add low high label = labelled label (pointed_sum_code low high)
+pointed_word op low high label = word_code op low high label ++ (placed op label ++ pointer_code)
+
+-- the same where ptr1 is to have the result
+abbrev pub pointed_form : Form → ℕ → List Line
+pointed_form (Word op low high) label = pointed_word op low high label
+pointed_form (Indexed size low high) label = elements_code size ++ pointed_word Add low high label
+pointed_form form label = value_form form label ++ pointer_code
+
+abbrev pub form_code : Destination → Form → ℕ → List Line
+form_code Registers form label = value_form form label
+form_code Pointer form label = pointed_form form label
 
 -- behind a left operand that waits: elements become bytes
 abbrev pub waiting_code : Operands → List Line
@@ -287,8 +305,8 @@ below_operand Stacked pushed bytes = more pushed bytes
 below_operand _ pushed bytes = pushed
 
 -- an operator, from the lines of its two operands
-abbrev pub operator_by : Operating → BinaryOp → Operands → IntType → ℕ → List Line → List Line → List Line
-operator_by (Left form) op operands right label a b = a ++ form_code form label
-operator_by (Right form) op operands right label a b = b ++ form_code form label
-operator_by (Held form) op operands right label a b = a ++ (keep_code ++ (b ++ form_code form label))
-operator_by Stacked op operands right label a b = labelled label (a ++ (waiting_code operands ++ (b ++ stacked_code op operands right)))
+abbrev pub operator_by : Destination → Operating → BinaryOp → Operands → IntType → ℕ → List Line → List Line → List Line
+operator_by d (Left form) op operands right label a b = a ++ form_code d form label
+operator_by d (Right form) op operands right label a b = b ++ form_code d form label
+operator_by d (Held form) op operands right label a b = a ++ (keep_code ++ (b ++ form_code d form label))
+operator_by d Stacked op operands right label a b = a ++ (waiting_code operands ++ (b ++ (stacked_code op operands right ++ (Label label ∷ arrived d))))

@@ -19,7 +19,9 @@ use Rattle.c65_gendirect.specs.declared.direct.Direct.{Direct}
 use Rattle.c65_gendirect.specs.declared.through.Stored.{Stored}
 use Rattle.c65_gendirect.specs.declared.through.Stored.TheVariants as stores
 use Rattle.c65_gendirect.specs.Bytes.{byte_of}
-use Rattle.c65_gendirect.specs.Through.{read_store_code, byte_through_code, word_through_code}
+use Rattle.c65_gendirect.specs.Through.{read_bytes_code, byte_through_code, word_through_code}
+use Rattle.c65_genexpr.specs.declared.destination.Destination.{Destination}
+use Rattle.c65_genexpr.specs.declared.destination.Destination.TheVariants.{Registers, Pointer}
 use Rattle.c65_genexpr.specs.declared.storing.Storing.{Storing}
 use Rattle.c65_genexpr.specs.declared.storing.Storing.TheVariants.{Left, RightByte, RightWord, HeldByte, HeldWord, Stacked}
 use Rattle.c65_genexpr.specs.Types.{bare, offset_at, access_of}
@@ -100,9 +102,14 @@ abbrev pub below_value : Storing → ℕ → Place → ℕ
 below_value Stacked pushed place = more pushed (held place)
 below_value _ pushed place = pushed
 
+-- where the address of the place's base comes, of what lies anywhere
+abbrev pub base_for : Storing → Destination
+base_for (Left at stored) = Pointer
+base_for _ = Registers
+
 -- an assignment, from the lines of the place's base and of the value
 abbrev pub assigned_by : Storing → Place → Access → List Line → List Line → List Line
-assigned_by (Left at stored) place access a b = a ++ (read_store_code at stored ++ narrow_code (type_in access))
+assigned_by (Left at stored) place access a b = a ++ (read_bytes_code at stored ++ narrow_code (type_in access))
 assigned_by (RightByte at low high) place access a b = b ++ (byte_through_code at low high ++ narrow_code (type_in access))
 assigned_by (RightWord at low high) place access a b = b ++ word_through_code at low high
 assigned_by (HeldByte at) place access a b = a ++ (keep_code ++ (b ++ (byte_behind_code at ++ narrow_code (type_in access))))

@@ -28,6 +28,10 @@ use crate::comparing::comparing_of;
 use crate::comparing::relation_by;
 use crate::comparing::tested_by;
 use crate::constants::residue_of;
+use crate::destination::Destination;
+use crate::destination::destination_of;
+use crate::destination::put_arrived;
+use crate::destination::put_fetch;
 use crate::direct::kept_at;
 use crate::direct::put_own_test;
 use crate::fields::put_loaded_test;
@@ -88,7 +92,7 @@ use c65_gendirect::put_byte_through;
 use c65_gendirect::put_compare;
 use c65_gendirect::put_compare_byte;
 use c65_gendirect::put_op;
-use c65_gendirect::put_read_store;
+use c65_gendirect::put_read_bytes;
 use c65_gendirect::put_truth;
 use c65_gendirect::put_word_through;
 use c65_gendirect::relation_of;
@@ -97,7 +101,6 @@ use c65_genload::copy;
 use c65_genload::extent_by;
 use c65_genload::held;
 use c65_genload::hold;
-use c65_genload::load;
 use c65_genload::load_bytes;
 use c65_genload::number;
 use c65_genload::push;
@@ -139,8 +142,9 @@ pub fn put_expr(
         }
         TKind::Load(a) => {
             let place = place_of(frame, pushed, a);
-            put_base(a, frame, pushed, draft)?;
-            load(place, access_of(&frame.parts().types, a), draft)
+            let access = access_of(&frame.parts().types, a);
+            put_base(a, destination_of(access), frame, pushed, draft)?;
+            put_fetch(place, access, draft)
         }
         TKind::Convert(a) => {
             put_expr(a, frame, pushed, draft)?;
@@ -153,7 +157,7 @@ pub fn put_expr(
                 put_comparison(a, b, *op, relation, frame, pushed, truth.no, false, draft)?;
                 put_truth(truth.no, truth.end, draft)
             }
-            None => put_operator(a, b, *op, frame, pushed, draft),
+            None => put_operator(a, b, *op, Destination::Registers, frame, pushed, draft),
         },
         TKind::And(a, b) => {
             let truth = truth_labels(draft)?;
@@ -199,7 +203,7 @@ pub fn put_expr(
         }
         TKind::Pack(a) => {
             let place = place_of(frame, pushed, a);
-            put_base(a, frame, pushed, draft)?;
+            put_base(a, Destination::Registers, frame, pushed, draft)?;
             load_bytes(place, extent_by(frame.bytes(&e.ty.ty)), draft)
         }
         TKind::Spill(object, a) => {
@@ -252,6 +256,7 @@ pub fn put_test(
             put_expr(a, frame, pushed, draft)?;
             put_test(b, frame, pushed, to, sense, draft)
         }
+        // addresses, and the value of one of two
         TKind::Literal(_)
         | TKind::Object(_)
         | TKind::Func(_)
@@ -259,8 +264,9 @@ pub fn put_test(
         | TKind::Member(_, _)
         | TKind::Address(_)
         | TKind::Decay(_)
-        | TKind::Cond(_, _, _)
-        | TKind::Assign(_, _)
+        | TKind::Cond(_, _, _) => put_plain_test(e, frame, pushed, to, sense, draft),
+        // what is changed, copied, called for or passed
+        TKind::Assign(_, _)
         | TKind::AssignOp(_, _, _, _)
         | TKind::AssignStep(_, _, _)
         | TKind::Step(_, _)
@@ -307,39 +313,41 @@ fn put_wanted(
     }
 }
 
-/// Puts the address behind which a place lies, as far as it tells, where so many bytes wait. Of one that is known only the
-/// labels of the sums that tell it are put.
+/// Puts the address behind which a place lies, as far as it tells, where it is wanted; so many bytes wait. Of one that is
+/// known only the labels of the sums that tell it are put.
 #[cycle(expression)]
 pub fn put_base(
     a: &TExpr,
+    destination: Destination,
     frame: &Frame<'_>,
     pushed: u16,
     draft: &mut Draft,
 ) -> Result<(), AllocError>
-    ensures lines { OnOk result (draft.new ≡ grown draft.old (base_code frame.now pushed draft.old.labels (typed_of a.now)) (uses None (typed_of a.now))) }
+    ensures lines { OnOk result (draft.new ≡ grown draft.old (base_code frame.now pushed draft.old.labels destination (typed_of a.now)) (uses None (typed_of a.now))) }
     ensures kept { OnErr result (Keeps draft.old draft.new) }
 {
-    put_base_by(a, frame, pushed, draft)
+    put_base_by(a, destination, frame, pushed, draft)
 }
 
 // The same by what the place is.
 #[cycle(expression)]
 fn put_base_by(
     a: &TExpr,
+    destination: Destination,
     frame: &Frame<'_>,
     pushed: u16,
     draft: &mut Draft,
 ) -> Result<(), AllocError>
-    ensures lines { OnOk result (draft.new ≡ grown draft.old (base_lines frame.now pushed draft.old.labels (typed_of a.now)) (uses None (typed_of a.now))) }
+    ensures lines { OnOk result (draft.new ≡ grown draft.old (base_lines frame.now pushed draft.old.labels destination (typed_of a.now)) (uses None (typed_of a.now))) }
     ensures kept { OnErr result (Keeps draft.old draft.new) }
 {
     match &a.kind {
         TKind::Literal(_) => put(draft, &[]),
-        TKind::Object(object) => put_unless_known(frame, pushed, *object, draft),
-        TKind::Deref(pointer) => put_pointer_base(pointer, frame, pushed, draft),
+        TKind::Object(object) => put_unless_known(frame, pushed, *object, destination, draft),
+        TKind::Deref(pointer) => put_pointer_base(pointer, destination, frame, pushed, draft),
         TKind::Member(e, member) => {
             let offset = offset_at(&frame.parts().types, &e.ty.ty, *member);
-            put_part_base(e, offset, frame, pushed, draft)
+            put_part_base(e, offset, destination, frame, pushed, draft)
         }
         TKind::Const(_)
         | TKind::Null
@@ -362,7 +370,10 @@ fn put_base_by(
         | TKind::Call(_, _)
         | TKind::Pack(_)
         | TKind::Spill(_, _)
-        | TKind::Rest => put_expr(a, frame, pushed, draft),
+        | TKind::Rest => {
+            put_expr(a, frame, pushed, draft)?;
+            put_arrived(destination, draft)
+        }
     }
 }
 
@@ -371,18 +382,20 @@ fn put_base_by(
 fn put_part_base(
     e: &TExpr,
     offset: u32,
+    destination: Destination,
     frame: &Frame<'_>,
     pushed: u16,
     draft: &mut Draft,
 ) -> Result<(), AllocError>
-    ensures lines { OnOk result (draft.new ≡ grown draft.old (part_base_code frame.now pushed draft.old.labels offset (typed_of e.now)) (uses None (typed_of e.now))) }
+    ensures lines { OnOk result (draft.new ≡ grown draft.old (part_base_code frame.now pushed draft.old.labels destination offset (typed_of e.now)) (uses None (typed_of e.now))) }
     ensures kept { OnErr result (Keeps draft.old draft.new) }
 {
     if has_base(place_of(frame, pushed, e), offset) {
-        put_base(e, frame, pushed, draft)
+        put_base(e, destination, frame, pushed, draft)
     } else {
         put_expr(e, frame, pushed, draft)?;
-        put_offset(offset, draft)
+        put_offset(offset, draft)?;
+        put_arrived(destination, draft)
     }
 }
 
@@ -390,37 +403,47 @@ fn put_part_base(
 #[cycle(expression)]
 fn put_pointer_base(
     e: &TExpr,
+    destination: Destination,
     frame: &Frame<'_>,
     pushed: u16,
     draft: &mut Draft,
 ) -> Result<(), AllocError>
-    ensures lines { OnOk result (draft.new ≡ grown draft.old (pointer_base_code frame.now pushed draft.old.labels (typed_of e.now)) (uses None (typed_of e.now))) }
+    ensures lines { OnOk result (draft.new ≡ grown draft.old (pointer_base_code frame.now pushed draft.old.labels destination (typed_of e.now)) (uses None (typed_of e.now))) }
     ensures kept { OnErr result (Keeps draft.old draft.new) }
 {
-    put_pointer_by(e, frame, pushed, draft)
+    put_pointer_by(e, destination, frame, pushed, draft)
 }
 
 // The same by what the pointer is.
 #[cycle(expression)]
 fn put_pointer_by(
     e: &TExpr,
+    destination: Destination,
     frame: &Frame<'_>,
     pushed: u16,
     draft: &mut Draft,
 ) -> Result<(), AllocError>
-    ensures lines { OnOk result (draft.new ≡ grown draft.old (pointer_lines frame.now pushed draft.old.labels (typed_of e.now)) (pointer_labels frame.now pushed (typed_of e.now))) }
+    ensures lines { OnOk result (draft.new ≡ grown draft.old (pointer_lines frame.now pushed draft.old.labels destination (typed_of e.now)) (pointer_labels frame.now pushed (typed_of e.now))) }
     ensures kept { OnErr result (Keeps draft.old draft.new) }
 {
     match &e.kind {
         TKind::Binary(op, pointer, number) => {
             if is_told(frame, pushed, *op, pointer, number) {
                 leaving::leave_sum(draft)?;
-                put_pointer_base(pointer, frame, pushed, draft)
+                put_pointer_base(pointer, destination, frame, pushed, draft)
             } else {
-                put_expr(e, frame, pushed, draft)
+                match relation_of(*op) {
+                    Some(_) => {
+                        put_expr(e, frame, pushed, draft)?;
+                        put_arrived(destination, draft)
+                    }
+                    None => put_operator(pointer, number, *op, destination, frame, pushed, draft),
+                }
             }
         }
-        TKind::Address(place) | TKind::Decay(place) => put_base(place, frame, pushed, draft),
+        TKind::Address(place) | TKind::Decay(place) => {
+            put_base(place, destination, frame, pushed, draft)
+        }
         TKind::Const(_)
         | TKind::Null
         | TKind::Literal(_)
@@ -443,7 +466,10 @@ fn put_pointer_by(
         | TKind::Spill(_, _)
         | TKind::Rest
         | TKind::Deref(_)
-        | TKind::Member(_, _) => put_expr(e, frame, pushed, draft),
+        | TKind::Member(_, _) => {
+            put_expr(e, frame, pushed, draft)?;
+            put_arrived(destination, draft)
+        }
     }
 }
 
@@ -464,11 +490,11 @@ fn put_load_test(
     let access = access_of(&frame.parts().types, a);
     match kept_at(place, access) {
         Some(direct) => {
-            put_base(a, frame, pushed, draft)?;
+            put_base(a, destination_of(access), frame, pushed, draft)?;
             put_own_test(direct, value_type(access), sense, to, draft)
         }
         None => {
-            put_base(a, frame, pushed, draft)?;
+            put_base(a, destination_of(access), frame, pushed, draft)?;
             put_loaded_test(place, access, sense, to, draft)
         }
     }
@@ -503,11 +529,12 @@ fn put_operator(
     a: &TExpr,
     b: &TExpr,
     op: BinaryOp,
+    destination: Destination,
     frame: &Frame<'_>,
     pushed: u16,
     draft: &mut Draft,
 ) -> Result<(), AllocError>
-    ensures lines { OnOk result (draft.new ≡ grown draft.old (operator_code frame.now pushed draft.old.labels op (typed_of a.now) (typed_of b.now)) (1 + (uses None (typed_of a.now) + uses None (typed_of b.now)))) }
+    ensures lines { OnOk result (draft.new ≡ grown draft.old (operator_code frame.now pushed draft.old.labels destination op (typed_of a.now) (typed_of b.now)) (1 + (uses None (typed_of a.now) + uses None (typed_of b.now)))) }
     ensures kept { OnErr result (Keeps draft.old draft.new) }
 {
     let label = next_label(draft)?;
@@ -516,18 +543,18 @@ fn put_operator(
         Operating::Left(form) => {
             put_expr(a, frame, pushed, draft)?;
             leaving::leave_out(b, Wanted::Value, draft)?;
-            put_form(form, label, draft)
+            put_form(destination, form, label, draft)
         }
         Operating::Right(form) => {
             leaving::leave_out(a, Wanted::Value, draft)?;
             put_expr(b, frame, pushed, draft)?;
-            put_form(form, label, draft)
+            put_form(destination, form, label, draft)
         }
         Operating::Held(form) => {
             put_expr(a, frame, pushed, draft)?;
             put_keep(draft)?;
             put_expr(b, frame, pushed, draft)?;
-            put_form(form, label, draft)
+            put_form(destination, form, label, draft)
         }
         Operating::Stacked => {
             let wait = waiting(width_of(computes(operands)));
@@ -535,7 +562,8 @@ fn put_operator(
             put_waiting(operands, draft)?;
             put_expr(b, frame, more(pushed, wait), draft)?;
             put_stacked(op, operands, kind_of(&b.ty.ty), draft)?;
-            put(draft, &[Label(label)])
+            put(draft, &[Label(label)])?;
+            put_arrived(destination, draft)
         }
     }
 }
@@ -692,9 +720,9 @@ fn put_assign(
     let access = access_of(&frame.parts().types, a);
     match storing_of(frame, pushed, a, b) {
         Storing::Left(at, stored) => {
-            put_base(a, frame, pushed, draft)?;
+            put_base(a, Destination::Pointer, frame, pushed, draft)?;
             leaving::leave_out(b, Wanted::Value, draft)?;
-            put_read_store(at, stored, draft)?;
+            put_read_bytes(at, stored, draft)?;
             narrow(value_type(access), draft)
         }
         Storing::RightByte(at, low, high) => {
@@ -709,20 +737,20 @@ fn put_assign(
             put_word_through(at, low, high, draft)
         }
         Storing::HeldByte(at) => {
-            put_base(a, frame, pushed, draft)?;
+            put_base(a, Destination::Registers, frame, pushed, draft)?;
             put_keep(draft)?;
             put_expr(b, frame, pushed, draft)?;
             put_byte_behind(at, draft)?;
             narrow(value_type(access), draft)
         }
         Storing::HeldWord(at) => {
-            put_base(a, frame, pushed, draft)?;
+            put_base(a, Destination::Registers, frame, pushed, draft)?;
             put_keep(draft)?;
             put_expr(b, frame, pushed, draft)?;
             put_word_behind(at, draft)
         }
         Storing::Stacked => {
-            put_base(a, frame, pushed, draft)?;
+            put_base(a, Destination::Registers, frame, pushed, draft)?;
             hold(place, draft)?;
             put_expr(b, frame, more(pushed, held(place)), draft)?;
             store(place, access, draft)
@@ -748,7 +776,7 @@ fn put_compound(
     let access = access_of(&frame.parts().types, a);
     let kind = computes(operands);
     let wait = more(held(place), waiting(width_of(kind)));
-    put_base(a, frame, pushed, draft)?;
+    put_base(a, Destination::Registers, frame, pushed, draft)?;
     steps::put_open(place, access, kind, draft)?;
     put_expr(b, frame, more(pushed, wait), draft)?;
     steps::put_close(op, operands, kind_of(&b.ty.ty), place, access, draft)
@@ -771,7 +799,7 @@ fn put_step_value(
     let access = access_of(&frame.parts().types, a);
     let size = target_bytes(frame, &a.ty.ty);
     let amount = steps::amount_of(frame, how, &a.ty.ty);
-    put_base(a, frame, pushed, draft)?;
+    put_base(a, Destination::Registers, frame, pushed, draft)?;
     steps::put_step(how, size, amount, place, access, label, draft)
 }
 

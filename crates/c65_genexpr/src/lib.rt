@@ -5,6 +5,7 @@ mod arguments;
 mod calls;
 mod comparing;
 mod constants;
+mod destination;
 mod direct;
 mod expr;
 mod fields;
@@ -23,6 +24,7 @@ mod wanted;
 
 pub use c65_genframe::{Frame, Home};
 pub use constants::{constant_in, residue_of};
+pub use destination::Destination;
 pub use direct::is_pure;
 pub use expr::{put_base, put_expr, put_test};
 pub use held::{PTR2, put_keep};

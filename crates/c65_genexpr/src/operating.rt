@@ -3,9 +3,10 @@ ghost use Rattle.std.specs.Prelude.{◌≡◌, OnOk, OnErr};
 ghost use Rattle.c65_csem.specs.Views.{typed_of};
 ghost use Rattle.c65_genwide.specs.Lines.{with_lines, Keeps};
 ghost use Rattle.c65_genexpr.specs.Leaving.{OperatesFree};
-ghost use Rattle.c65_genexpr.specs.Operating.{sum_by, mask_by, number_form, offset_form, constant_form, word_in, takes_bytes, word_if, element_form, right_form, under_if, left_form, constant_right, direct_right, direct_left, reading_of, held_elements, held_form, operating_of, placed, form_code, waiting_code, stacked_code};
+ghost use Rattle.c65_genexpr.specs.Operating.{sum_by, mask_by, number_form, offset_form, constant_form, word_in, takes_bytes, word_if, element_form, right_form, under_if, left_form, constant_right, direct_right, direct_left, reading_of, held_elements, held_form, operating_of, placed, value_form, pointed_word, pointed_form, form_code, waiting_code, stacked_code};
 
 use crate::constants::{constant_in, negative, residue_of};
+use crate::destination::Destination;
 use crate::direct::{direct_of, is_fixed, is_pure};
 use crate::held::{held_high, held_low};
 use crate::light::is_light;
@@ -15,7 +16,8 @@ use c65_code::Line::Label;
 use c65_code::{Draft, Width};
 use c65_csem::TExpr;
 use c65_gendirect::{
-    Direct, OperandByte, byte_of, put_add_number, put_long_mask, put_taken_from, put_word,
+    Direct, OperandByte, byte_of, put_add_number, put_long_mask, put_pointed_sum, put_pointer,
+    put_taken_from, put_word,
 };
 use c65_genframe::Frame;
 use c65_genload::{add, divide, push};
@@ -301,9 +303,9 @@ pub fn operating_of(
     form_of(frame, pushed, op, operands, a, b)
 }
 
-/// Behind the operand in the primary register. The label is the operator's own.
-pub fn put_form(form: Form, label: u32, draft: &mut Draft) -> Result<(), AllocError>
-    ensures lines { OnOk result (draft.new ≡ with_lines draft.old (form_code form label)) }
+// Behind the operand in the primary register.
+fn put_value_form(form: Form, label: u32, draft: &mut Draft) -> Result<(), AllocError>
+    ensures lines { OnOk result (draft.new ≡ with_lines draft.old (value_form form label)) }
     ensures kept { OnErr result (Keeps draft.old draft.new) }
 {
     match form {
@@ -349,6 +351,69 @@ fn place(op: BinaryOp, label: u32, draft: &mut Draft) -> Result<(), AllocError>
     match op {
         BinaryOp::Add | BinaryOp::Sub => put(draft, &[]),
         _ => put(draft, &[Label(label)]),
+    }
+}
+
+fn put_pointed_word(
+    op: BinaryOp,
+    low: OperandByte,
+    high: OperandByte,
+    label: u32,
+    draft: &mut Draft,
+) -> Result<(), AllocError>
+    ensures lines { OnOk result (draft.new ≡ with_lines draft.old (pointed_word op low high label)) }
+    ensures kept { OnErr result (Keeps draft.old draft.new) }
+{
+    match op {
+        BinaryOp::Add => {
+            put_pointed_sum(low, high, draft)?;
+            put(draft, &[Label(label)])
+        }
+        _ => {
+            put_word(op, low, high, label, draft)?;
+            place(op, label, draft)?;
+            put_pointer(draft)
+        }
+    }
+}
+
+// The same where ptr1 is to have the result.
+fn put_pointed_form(form: Form, label: u32, draft: &mut Draft) -> Result<(), AllocError>
+    ensures lines { OnOk result (draft.new ≡ with_lines draft.old (pointed_form form label)) }
+    ensures kept { OnErr result (Keeps draft.old draft.new) }
+{
+    match form {
+        Form::Word(op, low, high) => put_pointed_word(op, low, high, label, draft),
+        Form::Indexed(size, low, high) => {
+            put_elements(size, draft)?;
+            put_pointed_word(BinaryOp::Add, low, high, label, draft)
+        }
+        Form::Sum(_)
+        | Form::LongSum(_)
+        | Form::Mask(_, _)
+        | Form::Constant(_, _)
+        | Form::Under(_, _)
+        | Form::Distance(_, _, _)
+        | Form::DistanceUnder(_, _, _) => {
+            put_value_form(form, label, draft)?;
+            put_pointer(draft)
+        }
+    }
+}
+
+/// Behind the operand in the primary register, to where the result is wanted. The label is the operator's own.
+pub fn put_form(
+    destination: Destination,
+    form: Form,
+    label: u32,
+    draft: &mut Draft,
+) -> Result<(), AllocError>
+    ensures lines { OnOk result (draft.new ≡ with_lines draft.old (form_code destination form label)) }
+    ensures kept { OnErr result (Keeps draft.old draft.new) }
+{
+    match destination {
+        Destination::Registers => put_value_form(form, label, draft),
+        Destination::Pointer => put_pointed_form(form, label, draft),
     }
 }
 

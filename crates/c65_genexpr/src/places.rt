@@ -1,12 +1,14 @@
 // Where the places of an expression lie.
-ghost use Rattle.std.specs.Prelude.{◌≡◌, OnOk, OnErr};
+ghost use Rattle.std.specs.Prelude.{◌≡◌, ◌++◌, OnOk, OnErr};
 ghost use Rattle.c65_csem.specs.Views.{typed_of};
 ghost use Rattle.c65_genwide.specs.Lines.{with_lines, Keeps};
 ghost use Rattle.c65_genexpr.specs.Types.{bare};
 ghost use Rattle.c65_genexpr.specs.Operands.{operands_of, constant_in};
+ghost use Rattle.c65_genexpr.specs.Destination.{arrived};
 ghost use Rattle.c65_genexpr.specs.Places.{more, near, object_place, within, farther, moved, has_base, added_bytes, sum_has_base, sum_place, place_of, target_of, is_plain, object_code, target_code, rest_code};
 
 use crate::constants::{constant_in, residue_of};
+use crate::destination::{Destination, put_arrived};
 use crate::operands::{Operands, operands_of};
 use crate::types::offset_at;
 use c65_base::BinaryOp;
@@ -216,18 +218,22 @@ pub fn put_object(
     }
 }
 
-/// The same where it takes lines of code: the object's place is known otherwise.
+/// The same where it takes lines of code, to where it is wanted: the object's place is known otherwise.
 pub fn put_unless_known(
     frame: &Frame<'_>,
     pushed: u16,
     object: u32,
+    destination: Destination,
     draft: &mut Draft,
 ) -> Result<(), AllocError>
-    ensures lines { OnOk result (draft.new ≡ with_lines draft.old (target_code (object_place frame.now pushed object) (object_code frame.now pushed object))) }
+    ensures lines { OnOk result (draft.new ≡ with_lines draft.old (target_code (object_place frame.now pushed object) (object_code frame.now pushed object ++ arrived destination))) }
     ensures kept { OnErr result (Keeps draft.old draft.new) }
 {
     match object_place(frame, pushed, object) {
-        Place::Far(_) => put_object(frame, pushed, object, draft),
+        Place::Far(_) => {
+            put_object(frame, pushed, object, draft)?;
+            put_arrived(destination, draft)
+        }
         Place::Bank(_) | Place::Near(_) | Place::Data(_, _) => put(draft, &[]),
     }
 }

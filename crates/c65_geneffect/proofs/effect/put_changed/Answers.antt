@@ -1,14 +1,11 @@
-use Rattle.c65_genwide.proofs.Kept.{kept_last, grown_then, grown_last, label_then, label_last, refused_then}
+use Rattle.c65_genwide.proofs.Kept.{grown_then, grown_last, label_then, label_last, refused_then}
 use Rattle.c65_geneffect.proofs.effect.put_changed.Goals as goal
 
 pub returns-in_err-leave_out-in-Fixed-clause-kept : goal.returns-in_err-leave_out-in-Fixed-clause-kept
 returns-in_err-leave_out-in-Fixed-clause-kept c = refused_then c.from_residual-in_err-leave_out-in-Fixed.result (label_then _ _ _ c.in_ok-label.ensures.draft (grown_then _ _ _ _ _ c.in_ok-put_base-in-Fixed.ensures.lines c.in_err-leave_out-in-Fixed.ensures.kept))
 
-pub returns-in_err-put_point-in-Fixed-clause-kept : goal.returns-in_err-put_point-in-Fixed-clause-kept
-returns-in_err-put_point-in-Fixed-clause-kept c = refused_then c.from_residual-in_err-put_point-in-Fixed.result (label_then _ _ _ c.in_ok-label.ensures.draft (grown_then _ _ _ _ _ c.in_ok-put_base-in-Fixed.ensures.lines (grown_then _ _ _ _ _ c.in_ok-leave_out-in-Fixed.ensures.lines c.in_err-put_point-in-Fixed.ensures.kept)))
-
-pub returns-in_ok-put_point-in-Fixed-clause-kept : goal.returns-in_ok-put_point-in-Fixed-clause-kept
-returns-in_ok-put_point-in-Fixed-clause-kept c = label_last _ _ _ _ c.in_ok-label.ensures.draft (grown_last _ _ _ _ _ _ c.in_ok-put_base-in-Fixed.ensures.lines (grown_last _ _ _ _ _ _ c.in_ok-leave_out-in-Fixed.ensures.lines (kept_last _ _ _ _ _ c.in_ok-put_point-in-Fixed.ensures.lines c.put_change.ensures.kept)))
+pub returns-in_ok-leave_out-in-Fixed-clause-kept : goal.returns-in_ok-leave_out-in-Fixed-clause-kept
+returns-in_ok-leave_out-in-Fixed-clause-kept c = label_last _ _ _ _ c.in_ok-label.ensures.draft (grown_last _ _ _ _ _ _ c.in_ok-put_base-in-Fixed.ensures.lines (grown_last _ _ _ _ _ _ c.in_ok-leave_out-in-Fixed.ensures.lines c.put_change.ensures.kept))
 
 pub returns-in_err-put_expr-in-Loaded-clause-kept : goal.returns-in_err-put_expr-in-Loaded-clause-kept
 returns-in_err-put_expr-in-Loaded-clause-kept c = refused_then c.from_residual-in_err-put_expr-in-Loaded.result (label_then _ _ _ c.in_ok-label.ensures.draft (grown_then _ _ _ _ _ c.in_ok-put_base-in-Loaded.ensures.lines c.in_err-put_expr-in-Loaded.ensures.kept))

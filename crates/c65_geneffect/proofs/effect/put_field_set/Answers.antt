@@ -4,11 +4,8 @@ use Rattle.c65_geneffect.proofs.effect.put_field_set.Goals as goal
 pub returns-in_err-leave_out-in-Number-clause-kept : goal.returns-in_err-leave_out-in-Number-clause-kept
 returns-in_err-leave_out-in-Number-clause-kept c = refused_then c.from_residual-in_err-leave_out-in-Number.result (grown_then _ _ _ _ _ c.in_ok-put_base-in-Number.ensures.lines c.in_err-leave_out-in-Number.ensures.kept)
 
-pub returns-in_err-put_point-in-Number-clause-kept : goal.returns-in_err-put_point-in-Number-clause-kept
-returns-in_err-put_point-in-Number-clause-kept c = refused_then c.from_residual-in_err-put_point-in-Number.result (grown_then _ _ _ _ _ c.in_ok-put_base-in-Number.ensures.lines (grown_then _ _ _ _ _ c.in_ok-leave_out-in-Number.ensures.lines c.in_err-put_point-in-Number.ensures.kept))
-
-pub returns-in_ok-put_point-in-Number-clause-kept : goal.returns-in_ok-put_point-in-Number-clause-kept
-returns-in_ok-put_point-in-Number-clause-kept c = grown_last _ _ _ _ _ _ c.in_ok-put_base-in-Number.ensures.lines (grown_last _ _ _ _ _ _ c.in_ok-leave_out-in-Number.ensures.lines (kept_last _ _ _ _ _ c.in_ok-put_point-in-Number.ensures.lines c.put_set_number.ensures.kept))
+pub returns-in_ok-leave_out-in-Number-clause-kept : goal.returns-in_ok-leave_out-in-Number-clause-kept
+returns-in_ok-leave_out-in-Number-clause-kept c = grown_last _ _ _ _ _ _ c.in_ok-put_base-in-Number.ensures.lines (grown_last _ _ _ _ _ _ c.in_ok-leave_out-in-Number.ensures.lines c.put_set_number.ensures.kept)
 
 pub returns-in_err-put_keep-in-Held-clause-kept : goal.returns-in_err-put_keep-in-Held-clause-kept
 returns-in_err-put_keep-in-Held-clause-kept c = refused_then c.from_residual-in_err-put_keep-in-Held.result (grown_then _ _ _ _ _ c.in_ok-put_base-in-Held.ensures.lines c.in_err-put_keep-in-Held.ensures.kept)

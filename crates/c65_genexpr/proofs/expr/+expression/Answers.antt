@@ -76,7 +76,7 @@ pub put_expr-returns-in_ok-put_expr-in-Member-clause-kept : goal.put_expr-return
 put_expr-returns-in_ok-put_expr-in-Member-clause-kept t c = grown_last _ _ _ _ _ _ c.in_ok-put_expr-in-Member.ensures.lines c.put_offset.ensures.kept
 
 pub put_expr-returns-in_ok-put_base-in-Load-clause-kept : goal.put_expr-returns-in_ok-put_base-in-Load-clause-kept
-put_expr-returns-in_ok-put_base-in-Load-clause-kept t c = grown_last _ _ _ _ _ _ c.in_ok-put_base-in-Load.ensures.lines c.load.ensures.kept
+put_expr-returns-in_ok-put_base-in-Load-clause-kept t c = grown_last _ _ _ _ _ _ c.in_ok-put_base-in-Load.ensures.lines c.put_fetch.ensures.kept
 
 pub put_expr-returns-in_ok-put_expr-in-Convert-clause-kept : goal.put_expr-returns-in_ok-put_expr-in-Convert-clause-kept
 put_expr-returns-in_ok-put_expr-in-Convert-clause-kept t c = grown_last _ _ _ _ _ _ c.in_ok-put_expr-in-Convert.ensures.lines c.put_conversion.ensures.kept
@@ -225,9 +225,6 @@ put_operator-returns-in_err-put_expr-in-Stacked-2-clause-kept t c = refused_then
 pub put_operator-returns-in_err-put_stacked-in-Stacked-clause-kept : goal.put_operator-returns-in_err-put_stacked-in-Stacked-clause-kept
 put_operator-returns-in_err-put_stacked-in-Stacked-clause-kept t c = refused_then c.from_residual-in_err-put_stacked-in-Stacked.result (label_then _ _ _ c.in_ok-label.ensures.draft (grown_then _ _ _ _ _ c.in_ok-put_expr-in-Stacked.ensures.lines (kept_then _ _ _ _ c.in_ok-put_waiting-in-Stacked.ensures.lines (grown_then _ _ _ _ _ c.in_ok-put_expr-in-Stacked-2.ensures.lines c.in_err-put_stacked-in-Stacked.ensures.kept))))
 
-pub put_operator-returns-in_ok-put_stacked-in-Stacked-clause-kept : goal.put_operator-returns-in_ok-put_stacked-in-Stacked-clause-kept
-put_operator-returns-in_ok-put_stacked-in-Stacked-clause-kept t c = label_last _ _ _ _ c.in_ok-label.ensures.draft (grown_last _ _ _ _ _ _ c.in_ok-put_expr-in-Stacked.ensures.lines (kept_last _ _ _ _ _ c.in_ok-put_waiting-in-Stacked.ensures.lines (grown_last _ _ _ _ _ _ c.in_ok-put_expr-in-Stacked-2.ensures.lines (kept_last _ _ _ _ _ c.in_ok-put_stacked-in-Stacked.ensures.lines c.put.ensures.kept))))
-
 pub put_joint-returns-in_ok-put_test-clause-kept : goal.put_joint-returns-in_ok-put_test-clause-kept
 put_joint-returns-in_ok-put_test-clause-kept t c = grown_last _ _ _ _ _ _ c.in_ok-put_test.ensures.lines c.put_test-then-is_straight.ensures.kept
 
@@ -285,11 +282,11 @@ put_expr-returns-in_ok-put_comparison-in-Some-clause-kept t c = grown_last _ _ _
 pub put_assign-returns-in_err-leave_out-in-Left-clause-kept : goal.put_assign-returns-in_err-leave_out-in-Left-clause-kept
 put_assign-returns-in_err-leave_out-in-Left-clause-kept t c = refused_then c.from_residual-in_err-leave_out-in-Left.result (grown_then _ _ _ _ _ c.in_ok-put_base-in-Left.ensures.lines c.in_err-leave_out-in-Left.ensures.kept)
 
-pub put_assign-returns-in_err-put_read_store-in-Left-clause-kept : goal.put_assign-returns-in_err-put_read_store-in-Left-clause-kept
-put_assign-returns-in_err-put_read_store-in-Left-clause-kept t c = refused_then c.from_residual-in_err-put_read_store-in-Left.result (grown_then _ _ _ _ _ c.in_ok-put_base-in-Left.ensures.lines (grown_then _ _ _ _ _ c.in_ok-leave_out-in-Left.ensures.lines c.in_err-put_read_store-in-Left.ensures.kept))
+pub put_assign-returns-in_err-put_read_bytes-in-Left-clause-kept : goal.put_assign-returns-in_err-put_read_bytes-in-Left-clause-kept
+put_assign-returns-in_err-put_read_bytes-in-Left-clause-kept t c = refused_then c.from_residual-in_err-put_read_bytes-in-Left.result (grown_then _ _ _ _ _ c.in_ok-put_base-in-Left.ensures.lines (grown_then _ _ _ _ _ c.in_ok-leave_out-in-Left.ensures.lines c.in_err-put_read_bytes-in-Left.ensures.kept))
 
-pub put_assign-returns-in_ok-put_read_store-in-Left-clause-kept : goal.put_assign-returns-in_ok-put_read_store-in-Left-clause-kept
-put_assign-returns-in_ok-put_read_store-in-Left-clause-kept t c = grown_last _ _ _ _ _ _ c.in_ok-put_base-in-Left.ensures.lines (grown_last _ _ _ _ _ _ c.in_ok-leave_out-in-Left.ensures.lines (kept_last _ _ _ _ _ c.in_ok-put_read_store-in-Left.ensures.lines c.narrow.ensures.kept))
+pub put_assign-returns-in_ok-put_read_bytes-in-Left-clause-kept : goal.put_assign-returns-in_ok-put_read_bytes-in-Left-clause-kept
+put_assign-returns-in_ok-put_read_bytes-in-Left-clause-kept t c = grown_last _ _ _ _ _ _ c.in_ok-put_base-in-Left.ensures.lines (grown_last _ _ _ _ _ _ c.in_ok-leave_out-in-Left.ensures.lines (kept_last _ _ _ _ _ c.in_ok-put_read_bytes-in-Left.ensures.lines c.narrow.ensures.kept))
 
 pub put_assign-returns-in_err-put_byte_through-in-RightByte-clause-kept : goal.put_assign-returns-in_err-put_byte_through-in-RightByte-clause-kept
 put_assign-returns-in_err-put_byte_through-in-RightByte-clause-kept t c = refused_then c.from_residual-in_err-put_byte_through-in-RightByte.result (grown_then _ _ _ _ _ c.in_ok-leave_out-in-RightByte.ensures.lines (grown_then _ _ _ _ _ c.in_ok-put_expr-in-RightByte.ensures.lines c.in_err-put_byte_through-in-RightByte.ensures.kept))
@@ -331,13 +328,10 @@ pub put_assign-returns-in_ok-put_expr-in-Stacked-clause-kept : goal.put_assign-r
 put_assign-returns-in_ok-put_expr-in-Stacked-clause-kept t c = grown_last _ _ _ _ _ _ c.in_ok-put_base-in-Stacked.ensures.lines (kept_last _ _ _ _ _ c.in_ok-hold-in-Stacked.ensures.lines (grown_last _ _ _ _ _ _ c.in_ok-put_expr-in-Stacked.ensures.lines c.store.ensures.kept))
 
 pub put_base-returns-clause-lines : goal.put_base-returns-clause-lines
-put_base-returns-clause-lines t c = based c.put_base_by.result c.args.draft.now c.put_base_by.new.draft c.args.frame.now c.args.pushed c.args.draft.now.labels (typed_of c.args.a.now) c.put_base_by.ensures.lines
+put_base-returns-clause-lines t c = based c.put_base_by.result c.args.draft.now c.put_base_by.new.draft c.args.frame.now c.args.pushed c.args.draft.now.labels c.args.destination (typed_of c.args.a.now) c.put_base_by.ensures.lines
 
 pub put_pointer_base-returns-clause-lines : goal.put_pointer_base-returns-clause-lines
-put_pointer_base-returns-clause-lines t c = pointed c.put_pointer_by.result c.args.draft.now c.put_pointer_by.new.draft c.args.frame.now c.args.pushed c.args.draft.now.labels (typed_of c.args.e.now) c.put_pointer_by.ensures.lines
-
-pub put_part_base-returns-in_ok-put_expr-clause-kept : goal.put_part_base-returns-in_ok-put_expr-clause-kept
-put_part_base-returns-in_ok-put_expr-clause-kept t c = grown_last _ _ _ _ _ _ c.in_ok-put_expr.ensures.lines c.put_offset.ensures.kept
+put_pointer_base-returns-clause-lines t c = pointed c.put_pointer_by.result c.args.draft.now c.put_pointer_by.new.draft c.args.frame.now c.args.pushed c.args.draft.now.labels c.args.destination (typed_of c.args.e.now) c.put_pointer_by.ensures.lines
 
 pub put_pointer_by-returns-in_ok-leave_sum-in-Binary-clause-kept : goal.put_pointer_by-returns-in_ok-leave_sum-in-Binary-clause-kept
 put_pointer_by-returns-in_ok-leave_sum-in-Binary-clause-kept t c = grown_last _ _ _ _ _ _ c.in_ok-leave_sum-in-Binary.ensures.lines c.put_pointer_base.ensures.kept
@@ -351,3 +345,24 @@ pub put_choice-returns-clause-lines : goal.put_choice-returns-clause-lines
 put_choice-returns-clause-lines t c =
     choice_lines c.put-2.result c.args.draft.now c.next_label.new.draft c.next_label-2.new.draft c.put_test.new.draft c.put_expr.new.draft c.put.new.draft c.put_expr-2.new.draft c.put-2.new.draft c.args.frame.now c.args.pushed c.in_ok-other.other c.in_ok-end.end (typed_of c.args.c.now) (typed_of c.args.a.now) (typed_of c.args.b.now)
     c.in_ok-other.ensures.label c.in_ok-end.ensures.label c.in_ok-other.ensures.draft c.in_ok-end.ensures.draft c.in_ok-put_test.ensures.lines c.in_ok-put_expr.ensures.lines c.in_ok-put.ensures.lines c.in_ok-put_expr-2.ensures.lines c.put-2.ensures.lines
+
+pub put_operator-returns-in_err-put-in-Stacked-clause-kept : goal.put_operator-returns-in_err-put-in-Stacked-clause-kept
+put_operator-returns-in_err-put-in-Stacked-clause-kept t c = refused_then c.from_residual-in_err-put-in-Stacked.result (label_then _ _ _ c.in_ok-label.ensures.draft (grown_then _ _ _ _ _ c.in_ok-put_expr-in-Stacked.ensures.lines (kept_then _ _ _ _ c.in_ok-put_waiting-in-Stacked.ensures.lines (grown_then _ _ _ _ _ c.in_ok-put_expr-in-Stacked-2.ensures.lines (kept_then _ _ _ _ c.in_ok-put_stacked-in-Stacked.ensures.lines c.in_err-put-in-Stacked.ensures.kept)))))
+
+pub put_operator-returns-in_ok-put-in-Stacked-clause-kept : goal.put_operator-returns-in_ok-put-in-Stacked-clause-kept
+put_operator-returns-in_ok-put-in-Stacked-clause-kept t c = label_last _ _ _ _ c.in_ok-label.ensures.draft (grown_last _ _ _ _ _ _ c.in_ok-put_expr-in-Stacked.ensures.lines (kept_last _ _ _ _ _ c.in_ok-put_waiting-in-Stacked.ensures.lines (grown_last _ _ _ _ _ _ c.in_ok-put_expr-in-Stacked-2.ensures.lines (kept_last _ _ _ _ _ c.in_ok-put_stacked-in-Stacked.ensures.lines (kept_last _ _ _ _ _ c.in_ok-put-in-Stacked.ensures.lines c.put_arrived.ensures.kept)))))
+
+pub put_part_base-returns-in_err-put_offset-clause-kept : goal.put_part_base-returns-in_err-put_offset-clause-kept
+put_part_base-returns-in_err-put_offset-clause-kept t c = refused_then c.from_residual-in_err-put_offset.result (grown_then _ _ _ _ _ c.in_ok-put_expr.ensures.lines c.in_err-put_offset.ensures.kept)
+
+pub put_part_base-returns-in_ok-put_offset-clause-kept : goal.put_part_base-returns-in_ok-put_offset-clause-kept
+put_part_base-returns-in_ok-put_offset-clause-kept t c = grown_last _ _ _ _ _ _ c.in_ok-put_expr.ensures.lines (kept_last _ _ _ _ _ c.in_ok-put_offset.ensures.lines c.put_arrived.ensures.kept)
+
+pub put_base_by-returns-in_ok-put_expr-in-Const-clause-kept : goal.put_base_by-returns-in_ok-put_expr-in-Const-clause-kept
+put_base_by-returns-in_ok-put_expr-in-Const-clause-kept t c = grown_last _ _ _ _ _ _ c.in_ok-put_expr-in-Const.ensures.lines c.put_arrived.ensures.kept
+
+pub put_pointer_by-returns-in_ok-put_expr-in-Some-clause-kept : goal.put_pointer_by-returns-in_ok-put_expr-in-Some-clause-kept
+put_pointer_by-returns-in_ok-put_expr-in-Some-clause-kept t c = grown_last _ _ _ _ _ _ c.in_ok-put_expr-in-Some.ensures.lines c.put_arrived.ensures.kept
+
+pub put_pointer_by-returns-in_ok-put_expr-in-Const-clause-kept : goal.put_pointer_by-returns-in_ok-put_expr-in-Const-clause-kept
+put_pointer_by-returns-in_ok-put_expr-in-Const-clause-kept t c = grown_last _ _ _ _ _ _ c.in_ok-put_expr-in-Const.ensures.lines c.put_arrived-in-Const.ensures.kept

@@ -22,13 +22,13 @@ abbrev pub decreases-put_part_base : goal.decreases-put_part_base
 decreases-put_part_base l = 8 * count (typed_of l.e.now) + 3
 
 abbrev pub decreases-put_pointer_base : goal.decreases-put_pointer_base
-decreases-put_pointer_base l = 8 * count (typed_of l.e.now) + 2
+decreases-put_pointer_base l = 8 * count (typed_of l.e.now) + 3
 
 abbrev pub decreases-put_base_by : goal.decreases-put_base_by
 decreases-put_base_by l = 8 * count (typed_of l.a.now) + 1
 
 abbrev pub decreases-put_pointer_by : goal.decreases-put_pointer_by
-decreases-put_pointer_by l = 8 * count (typed_of l.e.now) + 1
+decreases-put_pointer_by l = 8 * count (typed_of l.e.now) + 2
 
 abbrev pub decreases-put_load_test : goal.decreases-put_load_test
 decreases-put_load_test l = 8 * count (typed_of l.a.now) + 4
