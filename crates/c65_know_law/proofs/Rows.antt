@@ -147,7 +147,7 @@ taken Changes Accumulator w t = t.regs.a
 taken Changes mode w t = value_at (ref_of mode w t) t
 taken _ mode w t = 0
 
-zero_as : (n : Note) (t : State) (i : ℕ) → IsNoted n t → IsAs (zero_byte n i) (t.zp i)
+pub zero_as : (n : Note) (t : State) (i : ℕ) → IsNoted n t → IsAs (zero_byte n i) (t.zp i)
 zero_as n t i h = at_2 (i == 2) refl
   where
     at_16 : (b : Bool) → (i == 16) ≡ b → IsAs (byte_of n (if b then Some T1 else None)) (t.zp i)

@@ -3,4 +3,5 @@ pub mod Rows
 mod Copies
 mod Texts
 mod Pairs
-mod Routines
+mod Formats
+pub mod Routines

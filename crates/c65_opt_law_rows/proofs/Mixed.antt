@@ -35,6 +35,10 @@ written_same (w ∷ ws) m k b (inr (inr h)) = written_same ws (write m w.0 w.1) 
 
 -- ---- what rows from near states have in common
 
+-- a byte below sp of which the row says nothing
+abbrev pub IsLeft : Row → State → ℕ → Type 0
+IsLeft row t b = (b < row.settled) × (sp_of t ≤ b + row.room)
+
 abbrev pub IsBank : Option (List ℕ) → Type 0
 IsBank None = Unit {0}
 IsBank (Some vs) = length vs ≡ 6
@@ -43,6 +47,7 @@ pub record RowSame (row other : Row) (t : State) : Type 0 where
   pub sp : row.sp ≡ other.sp
   pub changes : row.changes ≡ other.changes
   pub reach : row.room ≡ other.room
+  pub settled : row.settled ≡ other.settled
   pub a : has_part row.changes A ≡ true → row.a ≡ other.a
   pub x : has_part row.changes X ≡ true → row.x ≡ other.x
   pub sreg_low : has_part row.changes (Zp 2) ≡ true → row.sreg ≡ other.sreg
@@ -51,8 +56,8 @@ pub record RowSame (row other : Row) (t : State) : Type 0 where
   pub bank : row.bank ≡ other.bank
   pub bank_long : IsBank row.bank
   pub writes : row.writes ≡ other.writes
-  -- what the row lowers sp by, it writes
-  pub covers : stack_start ≤ row.sp → (b : ℕ) → row.sp ≤ b → b < sp_of t → IsWritten b row.writes
+  -- what the row lowers sp by, it writes or leaves open
+  pub covers : stack_start ≤ row.sp → (b : ℕ) → row.sp ≤ b → b < sp_of t → IsWritten b row.writes ⊎ IsLeft row t b
   pub taken : row.taken ≡ other.taken
   pub out : row.out ≡ other.out
   pub ends : row.ends ≡ other.ends
@@ -109,7 +114,7 @@ module _ (row other : Row) (t u v w : State) (live after : RegSet) (n : Near liv
 
   -- a byte of memory that the row leaves open
   abbrev pub is_open : ℕ → Bool
-  is_open b = nat_lt b (sp_of t) && (nat_lt b row.sp && not (nat_lt (b + row.room) (sp_of t)))
+  is_open b = nat_lt b (sp_of t) && (nat_lt b row.settled && not (nat_lt (b + row.room) (sp_of t)))
 
   abbrev pub may : Part → Bool
   may p = has_part row.changes p
@@ -174,8 +179,8 @@ module _ (row other : Row) (t u v w : State) (live after : RegSet) (n : Near liv
   high_given : (i : ℕ) → 26 ≤ i → is_given row i ≡ true
   high_given i h = rw (le-ltb i 2 (omega arith), le-ltb i 4 (omega arith), le-ltb i 8 (omega arith), le-ltb i 12 (omega arith), le-ltb i 20 (omega arith), le-ltb i 26 (omega arith)) refl
 
-  closed : (b : ℕ) → (b + row.room < sp_of t) ⊎ ((sp_of t ≤ b) ⊎ (row.sp ≤ b)) → is_open b ≡ false
-  closed b (inl h) = below (nat_lt b (sp_of t)) (nat_lt b row.sp) _ (lt-ltb (b + row.room) (sp_of t) h)
+  closed : (b : ℕ) → (b + row.room < sp_of t) ⊎ ((sp_of t ≤ b) ⊎ (row.settled ≤ b)) → is_open b ≡ false
+  closed b (inl h) = below (nat_lt b (sp_of t)) (nat_lt b row.settled) _ (lt-ltb (b + row.room) (sp_of t) h)
     where
       below : (p q r : Bool) → r ≡ true → (p && (q && not r)) ≡ false
       below true true true h = refl
@@ -183,7 +188,7 @@ module _ (row other : Row) (t u v w : State) (live after : RegSet) (n : Near liv
       below false q true h = refl
       below p q false h = absurd (cc)
   closed b (inr (inl h)) = rw (le-ltb b (sp_of t) h) refl
-  closed b (inr (inr h)) = second (nat_lt b (sp_of t)) _ _ (le-ltb b row.sp h)
+  closed b (inr (inr h)) = second (nat_lt b (sp_of t)) _ _ (le-ltb b row.settled h)
     where
       second : (p q r : Bool) → q ≡ false → (p && (q && r)) ≡ false
       second true true r h = absurd (cc)
@@ -346,8 +351,8 @@ module _ (row other : Row) (t u v w : State) (live after : RegSet) (n : Near liv
   mem_both : (b : ℕ) → (b < stack_start) ⊎ (row.sp ≤ b) → is_open b ≡ false → v.mem b ≡ w.mem b
   mem_both b h shut = mv.mem b here ∙ (written_same row.writes t.mem u.mem b (was h) ∙ (ap (λ (ws : List (ℕ × ℕ)). written u.mem ws b) same.writes ∙ sym (mw.mem b there)))
     where
-      three : (x y z : Bool) → (b < sp_of t → x ≡ true) → (b < row.sp → y ≡ true) → (sp_of t ≤ b + row.room → z ≡ false) → (x && (y && not z)) ≡ false → (b < sp_of t) ⊎ (sp_of t ≤ b) → (b < row.sp) ⊎ (row.sp ≤ b)
-          → (b + row.room < sp_of t) ⊎ (sp_of t ≤ b + row.room) → (b + row.room < sp_of t) ⊎ ((sp_of t ≤ b) ⊎ (row.sp ≤ b))
+      three : (x y z : Bool) → (b < sp_of t → x ≡ true) → (b < row.settled → y ≡ true) → (sp_of t ≤ b + row.room → z ≡ false) → (x && (y && not z)) ≡ false → (b < sp_of t) ⊎ (sp_of t ≤ b) → (b < row.settled) ⊎ (row.settled ≤ b)
+          → (b + row.room < sp_of t) ⊎ (sp_of t ≤ b + row.room) → (b + row.room < sp_of t) ⊎ ((sp_of t ≤ b) ⊎ (row.settled ≤ b))
       three x y z f g k e (inr p) q r = inr (inl p)
       three x y z f g k e p (inr q) r = inr (inr q)
       three x y z f g k e p q (inl r) = inl r
@@ -359,20 +364,26 @@ module _ (row other : Row) (t u v w : State) (live after : RegSet) (n : Near liv
           clash true false z a c d e = cc
           clash true true true a c d e = cc
 
-      here : (b + row.room < sp_of t) ⊎ ((sp_of t ≤ b) ⊎ (row.sp ≤ b))
-      here = three (nat_lt b (sp_of t)) (nat_lt b row.sp) (nat_lt (b + row.room) (sp_of t)) (lt-ltb b (sp_of t)) (lt-ltb b row.sp) (le-ltb (b + row.room) (sp_of t)) shut (cases_lt b (sp_of t)) (cases_lt b row.sp) (cases_lt (b + row.room) (sp_of t))
+      here : (b + row.room < sp_of t) ⊎ ((sp_of t ≤ b) ⊎ (row.settled ≤ b))
+      here = three (nat_lt b (sp_of t)) (nat_lt b row.settled) (nat_lt (b + row.room) (sp_of t)) (lt-ltb b (sp_of t)) (lt-ltb b row.settled) (le-ltb (b + row.room) (sp_of t)) shut (cases_lt b (sp_of t)) (cases_lt b row.settled) (cases_lt (b + row.room) (sp_of t))
 
-      there : (b + other.room < sp_of u) ⊎ ((sp_of u ≤ b) ⊎ (other.sp ≤ b))
-      there = subst (λ (k : ℕ). (b + k < sp_of u) ⊎ ((sp_of u ≤ b) ⊎ (other.sp ≤ b))) same.reach
-          (subst (λ (k : ℕ). (b + row.room < k) ⊎ ((k ≤ b) ⊎ (other.sp ≤ b))) same_sp
-          (subst (λ (k : ℕ). (b + row.room < sp_of t) ⊎ ((sp_of t ≤ b) ⊎ (k ≤ b))) same.sp here))
+      there : (b + other.room < sp_of u) ⊎ ((sp_of u ≤ b) ⊎ (other.settled ≤ b))
+      there = subst (λ (k : ℕ). (b + k < sp_of u) ⊎ ((sp_of u ≤ b) ⊎ (other.settled ≤ b))) same.reach
+          (subst (λ (k : ℕ). (b + row.room < k) ⊎ ((k ≤ b) ⊎ (other.settled ≤ b))) same_sp
+          (subst (λ (k : ℕ). (b + row.room < sp_of t) ⊎ ((sp_of t ≤ b) ⊎ (k ≤ b))) same.settled here))
 
       was : (b < stack_start) ⊎ (row.sp ≤ b) → (t.mem b ≡ u.mem b) ⊎ IsWritten b row.writes
       was (inl h) = inl (n.mem b (inl h))
       was (inr h) = pick (cases_lt b (sp_of t))
         where
+          covered : (b + row.room < sp_of t) ⊎ ((sp_of t ≤ b) ⊎ (row.settled ≤ b)) → IsWritten b row.writes ⊎ IsLeft row t b → (t.mem b ≡ u.mem b) ⊎ IsWritten b row.writes
+          covered k (inl w) = inr w
+          covered (inl k) (inr o) = absurd (omega (arith, k, o.1))
+          covered (inr (inl k)) (inr o) = inl (n.mem b (inr k))
+          covered (inr (inr k)) (inr o) = absurd (omega (arith, k, o.0))
+
           pick : (b < sp_of t) ⊎ (sp_of t ≤ b) → (t.mem b ≡ u.mem b) ⊎ IsWritten b row.writes
-          pick (inl lt) = inr (same.covers (subst (λ (k : ℕ). stack_start ≤ k) mv.sp low) b h lt)
+          pick (inl lt) = covered here (same.covers (subst (λ (k : ℕ). stack_start ≤ k) mv.sp low) b h lt)
           pick (inr ge) = inl (n.mem b (inr ge))
 
   pub near : Near after mixed w

@@ -78,7 +78,7 @@ common_length_same : (a b : ℕ) (m k : Bytes) → ((x : ℕ) → a ≤ x → x 
 unfolding common_length
 common_length_same a b m k h g = common_same 65536 a b m k h g
 
-all_behind : (P : ℕ → Type 0) (xs ys : List ℕ) → All P (xs ++ ys) → All P ys
+pub all_behind : (P : ℕ → Type 0) (xs ys : List ℕ) → All P (xs ++ ys) → All P ys
 all_behind P [] ys h = h
 all_behind P (x ∷ xs) ys h = all_behind P xs ys (All-tail P x (xs ++ ys) h)
 

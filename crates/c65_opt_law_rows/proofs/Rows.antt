@@ -7,6 +7,8 @@ use Rattle.c65_base.specs.declared.library.Library.TheVariants.{Putchar, Getchar
 use Rattle.c65_code.specs.declared.parts.Part.{Part}
 use Rattle.c65_code.specs.declared.parts.Part.TheVariants.{A, X, Y, Zp}
 use Rattle.c65_code.specs.declared.parts.RegSet.{RegSet}
+use Rattle.c65_code.specs.declared.routine.Count.{Count}
+use Rattle.c65_code.specs.declared.routine.Count.TheVariants.{One, Two, Three, Four, Five, Six, Seven, Eight}
 use Rattle.c65_code.specs.declared.routine.Width.{Width}
 use Rattle.c65_code.specs.declared.routine.Width.TheVariants.{Ax, Eax}
 use Rattle.c65_code.specs.declared.routine.Routine.{Routine}
@@ -22,7 +24,7 @@ use Rattle.c65_code.specs.Texts.{bytes_at, range_of, listed}
 use Rattle.c65_opt_law_near.specs.Laws.{IsLow}
 use Rattle.c65_opt_law_near.specs.Near.{Near}
 use Rattle.c65_opt_law_near.proofs.Sets.{in_left}
-use Rattle.c65_opt_law_rows.proofs.Mixed.{IsWritten, IsBank, RowSame}
+use Rattle.c65_opt_law_rows.proofs.Mixed.{IsWritten, IsLeft, IsBank, RowSame}
 
 -- what two rows have in common, what they need and cost included
 pub record RowAlike (row other : Row) (t : State) : Type 0 where
@@ -39,8 +41,6 @@ AlikeIf _ _ t = ⊥
 
 -- the routines that read bytes at fixed distances alone
 abbrev pub IsSimple : Routine → Type 0
-IsSimple (routines.DecSp count) = ⊥
-IsSimple routines.SubYSp = ⊥
 IsSimple routines.CopyTos = ⊥
 IsSimple (routines.Library Putchar) = Unit {0}
 IsSimple (routines.Library Getchar) = Unit {0}
@@ -99,6 +99,8 @@ IsPopping _ = ⊥
 abbrev IsMovingSp : Routine → Type 0
 IsMovingSp (routines.IncSp count) = Unit {0}
 IsMovingSp routines.AddYSp = Unit {0}
+IsMovingSp (routines.DecSp count) = Unit {0}
+IsMovingSp routines.SubYSp = Unit {0}
 IsMovingSp _ = ⊥
 
 listed_written : (vs : List ℕ) (at b : ℕ) → at ≤ b → b < at + length vs → IsWritten b (listed vs at)
@@ -109,13 +111,13 @@ listed_written (v ∷ vs) at b low high = pick (cases_eq b at) (λ more. listed_
     pick (inl e) later = inl e
     pick (inr ne) later = inr (later (omega arith))
 
-abbrev Covers : Row → State → Type 0
-Covers row t = stack_start ≤ row.sp → (b : ℕ) → row.sp ≤ b → b < sp_of t → IsWritten b row.writes
+abbrev pub Covers : Row → State → Type 0
+Covers row t = stack_start ≤ row.sp → (b : ℕ) → row.sp ≤ b → b < sp_of t → IsWritten b row.writes ⊎ IsLeft row t b
 
 -- rows that are one row
 pub equal_alike : (row other : Row) (t : State) → row ≡ other → IsBank row.bank → Covers row t → RowAlike row other t
 equal_alike row other t e bank covers = subst (λ (o : Row). RowAlike row o t) e (record {
-  same = record { sp = refl; changes = refl; reach = refl; a = λ h. refl; x = λ h. refl; sreg_low = λ h. refl; sreg_high = λ h. refl; pointers = refl; bank = refl; bank_long = bank; writes = refl; covers = covers; taken = refl; out = refl; ends = refl };
+  same = record { sp = refl; changes = refl; reach = refl; settled = refl; a = λ h. refl; x = λ h. refl; sreg_low = λ h. refl; sreg_high = λ h. refl; pointers = refl; bank = refl; bank_long = bank; writes = refl; covers = covers; taken = refl; out = refl; ends = refl };
   ready = refl;
   close = refl;
   far = refl;
@@ -130,6 +132,7 @@ keeping_alike row other t u e bank covers a x low high = subst (λ (o : Row). Ro
     sp = refl;
     changes = refl;
     reach = refl;
+    settled = refl;
     a = λ h. absurd (apart (has_part row.changes A) h a);
     x = λ h. absurd (apart (has_part row.changes X) h x);
     sreg_low = λ h. absurd (apart (has_part row.changes (Zp 2)) h low);
@@ -159,6 +162,7 @@ with_x_alike row other t v w h e = record {
     sp = h.same.sp;
     changes = h.same.changes;
     reach = h.same.reach;
+    settled = h.same.settled;
     a = h.same.a;
     x = λ c. e;
     sreg_low = h.same.sreg_low;
@@ -184,6 +188,7 @@ with_a_alike row other t v w h e = record {
     sp = h.same.sp;
     changes = h.same.changes;
     reach = h.same.reach;
+    settled = h.same.settled;
     a = λ c. e;
     x = h.same.x;
     sreg_low = h.same.sreg_low;
@@ -202,6 +207,16 @@ with_a_alike row other t v w h e = record {
   far = h.far;
   cost = h.cost;
 }
+
+few_bytes : (count : Count) → number_of count ≤ 8
+few_bytes One = omega arith
+few_bytes Two = omega arith
+few_bytes Three = omega arith
+few_bytes Four = omega arith
+few_bytes Five = omega arith
+few_bytes Six = omega arith
+few_bytes Seven = omega arith
+few_bytes Eight = omega arith
 
 module _ (t u : State) (live : RegSet) (n : Near live t u) where
   pub sp : sp_of t ≡ sp_of u
@@ -236,7 +251,7 @@ module _ (t u : State) (live : RegSet) (n : Near live t u) where
 
   -- the row of the first group that gives nothing
   pub plain_row : (r : Routine) → row_by r t ≡ row_by r u
-  plain_row r = ap (λ (x : ℕ). record { ready = true; sp = x; a = None; x = None; sreg = None; pointers = None; bank = None; writes = []; near = []; far = []; taken = 0; out = []; ends = None; room = 64; changes = routine_sets r; cost = 32 }) sp
+  plain_row r = ap (λ (x : ℕ). record { ready = true; sp = x; a = None; x = None; sreg = None; pointers = None; bank = None; writes = []; near = []; far = []; taken = 0; out = []; ends = None; room = 64; settled = x; changes = routine_sets r; cost = 32 }) sp
 
   pub open_one : (place : Placement) → IsLow place → (bound b : ℕ) → sp_of t ≤ bound → IsOpen place bound b → (b < stack_start) ⊎ (sp_of t ≤ b)
   open_one place low bound b le (inl h) = inl (low.data_below b h)
@@ -246,10 +261,10 @@ module _ (t u : State) (live : RegSet) (n : Near live t u) where
 
   push_base : (r : Routine) (vs ws : List ℕ) → vs ≡ ws → pushing vs t (row_by r t) ≡ pushing ws u (row_by r u)
   push_base r vs ws e =
-      ap (λ (xs : List ℕ). pushing xs t (row_by r t)) e ∙ (ap (λ (b : ℕ). record (row_by r t) { sp = b - length ws; writes = listed ws (b - length ws); near = range_of (length ws) (b - length ws) }) sp ∙ ap (pushing ws u) (plain_row r))
+      ap (λ (xs : List ℕ). pushing xs t (row_by r t)) e ∙ (ap (λ (b : ℕ). record (row_by r t) { sp = b - length ws; settled = b - length ws; writes = listed ws (b - length ws); near = range_of (length ws) (b - length ws) }) sp ∙ ap (pushing ws u) (plain_row r))
 
   push_covers : (r : Routine) (vs : List ℕ) → Covers (pushing vs t (row_by r t)) t
-  push_covers r vs above b g h = listed_written vs (sp_of t - length vs) b g (omega arith)
+  push_covers r vs above b g h = inl (listed_written vs (sp_of t - length vs) b g (omega arith))
 
   pub pop_base : (r : Routine) (count : ℕ) → popping count t (row_by r t) ≡ popping count u (row_by r u)
   pop_base r count = ap (λ (b : ℕ). record (row_by r t) { sp = b + count; near = range_of count b }) sp ∙ ap (popping count u) (plain_row r)
@@ -264,7 +279,7 @@ module _ (t u : State) (live : RegSet) (n : Near live t u) where
       → RowAlike (push_row r vs t) (push_row r ws u) t
   pushed_alike r vs ws e a x low high = keeping_alike (pushing vs t (row_by r t)) (pushing ws u (row_by r u)) t u (push_base r vs ws e) tt (push_covers r vs) a x low high
 
-  bytes_one : (count b c : ℕ) → b ≡ c → sp_of t ≤ b → bytes_at count b t.mem ≡ bytes_at count c u.mem
+  pub bytes_one : (count b c : ℕ) → b ≡ c → sp_of t ≤ b → bytes_at count b t.mem ≡ bytes_at count c u.mem
   bytes_one zero b c e h = refl
   bytes_one (suc count) b c e h =
       ap (λ (v : ℕ). v ∷ bytes_at count (b + 1) t.mem) (at_one b c e (inr h)) ∙ ap (λ (vs : List ℕ). u.mem c ∷ vs) (bytes_one count (b + 1) (c + 1) (ap (λ (x : ℕ). x + 1) e) (omega arith))
@@ -301,7 +316,7 @@ read_alike (v ∷ input) row t u bank le = equal_alike (record (giving Ax v row)
 fields_alike : (row other : Row) (t : State) → row ≡ other → IsBank row.bank → Covers row t → (a d x y c e : Option ℕ) → (has_part row.changes A ≡ true → a ≡ d) → (has_part row.changes X ≡ true → x ≡ y) → (has_part row.changes (Zp 2) ≡ true → c ≡ e)
     → (has_part row.changes (Zp 3) ≡ true → c ≡ e) → RowAlike (record row { a = a; x = x; sreg = c }) (record other { a = d; x = y; sreg = e }) t
 fields_alike row other t is bank covers a d x y c e f g low high = subst (λ (o : Row). RowAlike (record row { a = a; x = x; sreg = c }) (record o { a = d; x = y; sreg = e }) t) is (record {
-  same = record { sp = refl; changes = refl; reach = refl; a = f; x = g; sreg_low = low; sreg_high = high; pointers = refl; bank = refl; bank_long = bank; writes = refl; covers = covers; taken = refl; out = refl; ends = refl };
+  same = record { sp = refl; changes = refl; reach = refl; settled = refl; a = f; x = g; sreg_low = low; sreg_high = high; pointers = refl; bank = refl; bank_long = bank; writes = refl; covers = covers; taken = refl; out = refl; ends = refl };
   ready = refl;
   close = refl;
   far = refl;
@@ -376,6 +391,18 @@ module _ (place : Placement) (low : IsLow place) (t u : State) (live : RegSet) (
     where
       wrapped : stack_start ≤ (sp_of t + t.regs.y) % 65536 → (b : ℕ) → (sp_of t + t.regs.y) % 65536 ≤ b → b < sp_of t → t.regs.y < 256 → ⊥
       wrapped above b g h y = omega arith
+  moves_sp (routines.DecSp count) i reads =
+      keeping_alike (record (row_by (routines.DecSp count) t) { sp = sp_of t - number_of count }) (record (row_by (routines.DecSp count) u) { sp = sp_of u - number_of count }) t u
+      (ap (λ (b : ℕ). record (row_by (routines.DecSp count) t) { sp = b - number_of count }) eq_sp ∙ ap (λ (row : Row). record row { sp = sp_of u - number_of count }) (plain_row t u live n (routines.DecSp count))) tt
+      (λ above b g h. inr (h, let few : number_of count ≤ 8 = few_bytes count in omega arith)) refl refl refl refl
+  moves_sp routines.SubYSp i reads =
+      let y : t.regs.y ≡ u.regs.y = reads Y refl in
+      let both : sp_of t - t.regs.y ≡ sp_of u - u.regs.y = ap (λ (b : ℕ). b - t.regs.y) eq_sp ∙ ap (λ (b : ℕ). sp_of u - b) y in
+      keeping_alike (record (row_by routines.SubYSp t) { sp = sp_of t - t.regs.y; room = max 64 t.regs.y }) (record (row_by routines.SubYSp u) { sp = sp_of u - u.regs.y; room = max 64 u.regs.y }) t u
+      (ap (λ (b : ℕ). record (row_by routines.SubYSp t) { sp = b; room = max 64 t.regs.y }) both
+      ∙ (ap (λ (b : ℕ). record (row_by routines.SubYSp t) { sp = sp_of u - u.regs.y; room = max 64 b }) y
+      ∙ ap (λ (row : Row). record row { sp = sp_of u - u.regs.y; room = max 64 u.regs.y }) (plain_row t u live n routines.SubYSp))) tt
+      (λ above b g h. inr (h, omega arith)) refl refl refl refl
   moves_sp _ i reads = absurd i
 
   -- ---- bytes at a distance from sp
@@ -577,8 +604,8 @@ module _ (place : Placement) (low : IsLow place) (t u : State) (live : RegSet) (
   rows_alike (routines.Library Putchar) i reads room = operators (routines.Library Putchar) tt reads
   rows_alike (routines.Library Getchar) i reads room = operators (routines.Library Getchar) tt reads
   rows_alike (routines.Library Exit) i reads room = operators (routines.Library Exit) tt reads
-  rows_alike (routines.DecSp count) i reads room = absurd i
-  rows_alike routines.SubYSp i reads room = absurd i
+  rows_alike (routines.DecSp count) i reads room = moves_sp (routines.DecSp count) tt reads
+  rows_alike routines.SubYSp i reads room = moves_sp routines.SubYSp tt reads
   rows_alike routines.CopyTos i reads room = absurd i
   rows_alike (routines.Library f) i reads room = absurd i
   rows_alike _ i reads room = tt

@@ -37,12 +37,12 @@ length_same (suc fuel) at m k h = pick (m at == 0) refl h (length_same fuel (at 
         let more : (k at == 0) ≡ false = sym (ap (λ (v : ℕ). v == 0) first) ∙ e in
         ap suc (later (λ b low high. h b (omega arith) (omega arith))) ∙ sym (ap (λ (b : Bool). if b then 0 else suc (length_within fuel (at + 1) k)) more)
 
-bytes_same : (count at : ℕ) (m k : Bytes) → ((b : ℕ) → at ≤ b → b < at + count → m b ≡ k b) → bytes_at count at m ≡ bytes_at count at k
+pub bytes_same : (count at : ℕ) (m k : Bytes) → ((b : ℕ) → at ≤ b → b < at + count → m b ≡ k b) → bytes_at count at m ≡ bytes_at count at k
 bytes_same zero at m k h = refl
 bytes_same (suc count) at m k h =
     ap (λ (v : ℕ). v ∷ bytes_at count (at + 1) m) (h at (omega arith) (omega arith)) ∙ ap (λ (vs : List ℕ). k at ∷ vs) (bytes_same count (at + 1) m k (λ b low high. h b (omega arith) (omega arith)))
 
-text_same : (at : ℕ) (m k : Bytes) → ((b : ℕ) → at ≤ b → b < at + (text_length at m + 1) → m b ≡ k b) → text_length at m ≡ text_length at k
+pub text_same : (at : ℕ) (m k : Bytes) → ((b : ℕ) → at ≤ b → b < at + (text_length at m + 1) → m b ≡ k b) → text_length at m ≡ text_length at k
 unfolding text_length
 text_same at m k h = length_same 65536 at m k h
 

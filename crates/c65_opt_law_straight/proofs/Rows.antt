@@ -57,7 +57,7 @@ given_kind s ops.Pla mode operand t Moves fit h i = omega arith
 given_kind s ops.Tsx mode operand t Moves fit h i = omega arith
 given_kind s _ mode operand t Moves fit h i = absurd i
 
-given_line : (s : Setting) (line : Line) (t : State) → IsInRow line → IsGivenByte (given_of s (form_of line) t)
+pub given_line : (s : Setting) (line : Line) (t : State) → IsInRow line → IsGivenByte (given_of s (form_of line) t)
 given_line s (Label l) t h = absurd h.operation
 given_line s (Do op mode operand) t h =
     let row = and_parts (has_row op mode) _ h.fit in
@@ -88,7 +88,7 @@ local Depth i = tt
 local _ i = absurd i
 
 -- it leads to one state
-does_one : (place : Placement) (form : Form) (t u v : State) → IsOperation form → Does place form t u → Does place form t v → u ≡ v
+pub does_one : (place : Placement) (form : Form) (t u v : State) → IsOperation form → Does place form t u → Does place form t v → u ≡ v
 does_one place (Plain op mode operand) t u v i d e = d ∙ sym e
 does_one place (Branch op l) t u v i d e = d ∙ sym e
 does_one place (Jump l) t u v i d e = d ∙ sym e

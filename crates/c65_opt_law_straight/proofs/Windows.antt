@@ -12,7 +12,7 @@ use Rattle.c65_opt_law_straight.specs.Laws.{WindowStaysNear}
 use Rattle.c65_opt_law_straight.proofs.Rows.{lines_stay_near}
 
 -- states that agree are near
-agree_near : (live : RegSet) (t u : State) → Agree live t u → Near live t u
+pub agree_near : (live : RegSet) (t u : State) → Agree live t u → Near live t u
 agree_near live t u h = record {
   part = h.part;
   sp_low = ap (λ (s : State). s.zp 0) h.rest;

@@ -1,6 +1,6 @@
 mod Bits
-mod Agreeing
-mod Windows
+pub mod Agreeing
+pub mod Windows
 mod Carries
 mod Compares
 mod Masks

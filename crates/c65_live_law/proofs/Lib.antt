@@ -1,0 +1,4 @@
+mod Step
+mod Room
+mod Bounds
+mod Tables

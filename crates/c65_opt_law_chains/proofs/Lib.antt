@@ -1,0 +1,9 @@
+mod Places
+mod Unused
+mod Never
+mod Same
+mod Sends
+mod Hop
+mod Lines
+mod Chains
+mod Threaded

@@ -1,0 +1,4 @@
+mod Labels
+mod Branches
+mod Jumps
+mod Unreached

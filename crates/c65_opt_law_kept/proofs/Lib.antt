@@ -1,0 +1,6 @@
+pub mod Steps
+pub mod Kept
+pub mod Made
+mod Arithmetic
+mod Loads
+mod Stores

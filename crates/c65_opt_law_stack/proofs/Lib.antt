@@ -1,0 +1,11 @@
+mod Windows
+mod Acts
+mod Stack
+mod Routines
+mod Pushed
+mod Words
+mod Operators
+mod InLine
+mod Stand
+mod Places
+mod Rules

@@ -1,0 +1,13 @@
+mod Followed
+mod Made
+mod Mixed
+mod Placed
+mod Functions
+mod Codes
+mod Copies
+mod Rules
+mod Calls
+mod Ranges
+mod Kept
+mod Names
+mod Serves

@@ -1,0 +1,6 @@
+mod Registers
+mod Loads
+mod Places
+mod Made
+mod Moved
+mod Kept
