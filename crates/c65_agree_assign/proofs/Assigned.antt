@@ -54,7 +54,7 @@ size_is (Pointer size) scalar = refl
 size_is (Field t low width) scalar = absurd scalar
 size_is (Area size) scalar = absurd scalar
 
-module _ (g : World) (a : Active) (pushed needs : ℕ) (place : Place) (f : Shape) (c : Scene) (w : Placing) (k : Banks) (t : State) (b o : ℕ) (v : Value) (n weight p : ℕ) (work : List Item) (vs : List Value) (seen : Seen) (placed : IsPlacement g.code g.place) (has : HasAt (lines_of g a) p (bytes_store place (extent_in f))) (r : Ready g a (pushed + held place) needs c w k t) (scalar : IsScalar f) (fits : Fits f v) (result : ResultIs Valued w (width_in f) v t) (holds : MayHold place (extent_in f)) (meant : IsMeant g a w t place b o) (turns : HasTurns g c.turns (place_in g a p) seen) where
+module _ (g : World) (a : Active) (pushed needs : ℕ) (place : Place) (f : Shape) (c : Scene) (w : Placing) (k : Banks) (t : State) (b o : ℕ) (v : Value) (n weight p : ℕ) (work : List Item) (vs : List Value) (seen : Seen) (placed : IsPlacement g.code g.place) (has : HasAt (lines_of g a) p (bytes_store place (extent_in f))) (r : Ready g a (pushed + held place) needs c w k t) (scalar : IsScalar f) (fits : Fits f v) (result : ResultIs Valued w (width_in f) v t) (holds : MayHold place (extent_in f)) (meant : IsMeant g a w t place b o (bytes_in (extent_in f))) (turns : HasTurns g c.turns (place_in g a p) seen) where
   abbrev size : ℕ
   size = bytes_in (extent_in f)
 

@@ -223,7 +223,7 @@ module _ (g : World) (a : Active) (pushed needs : ℕ) (c : Scene) (w : Placing)
         finish (Near off) extent (suc (suc p)) ends behind k u s2 (record { taken = taken u is; value = still u is.value }) h2)))
       where
         taken : (u : State) → IsStored g a pushed needs c w k store b x o new (stored_in regs_y []) u → AreTaken g a pushed needs 0 c w k t (with_put c b x o (bytes_in extent) new) k u
-        taken u is = subst (λ y. AreTaken g a pushed needs 0 c w k t (with_put c b x o y new) k u) size (record { ready = is.taken.ready; sp = is.taken.sp ∙ ap (λ y. sp_of t + y) none; frames = is.taken.frames; next = is.taken.next; ended = is.taken.ended; kept = λ n le f. is.taken.kept n (omega (arith, le, none)) f; banks = is.taken.banks; own_bank = is.taken.own_bank })
+        taken u is = subst (λ y. AreTaken g a pushed needs 0 c w k t (with_put c b x o y new) k u) size (record { ready = is.taken.ready; sp = is.taken.sp ∙ ap (λ y. sp_of t + y) none; frames = is.taken.frames; next = is.taken.next; bounds = is.taken.bounds; kept = λ n le f. is.taken.kept n (omega (arith, le, none)) f; banks = is.taken.banks; own_bank = is.taken.own_bank })
 
   through : (at off : ℕ) (store : Storing) (extent : Extent) → taken_by store ≡ 2 → stored_size store ≡ bytes_in extent → row_cost (row_of (storing_of store) t) ≤ 256 → suc p ≡ p + length (bytes_store (Far off) extent)
       → GoesTo store (at + o) t → ((u : State) → Stays store t u → IsStill (Far off) extent t u) → Ready g a (pushed + 2) needs c w k t → HasTurns g turns (place_in g a p) seen

@@ -43,15 +43,15 @@ NumbersAreStored = (g : World) (a : Active) (pushed needs : ℕ) (place : Place)
     → Follows g n (v + 260) m (place_in g a p) t seen
 
 -- a block stands where the lines store, or in the active call's regbank
-abbrev pub IsMeant : World → Active → Placing → State → Place → ℕ → ℕ → Type 0
-IsMeant g a w t place b o = (q : Spot) → w b ≡ Some q → IsOwn a q × (stored_spot g a t place ≡ beyond q o)
+abbrev pub IsMeant : World → Active → Placing → State → Place → ℕ → ℕ → ℕ → Type 0
+IsMeant g a w t place b o n = (q : Spot) → w b ≡ Some q → IsOwn a q o n × (stored_spot g a t place ≡ beyond q o)
 
 -- The step of an assignment, where the value is in the primary register: what it leaves is what the object then holds (C90 6.3.16).
 abbrev pub AssignmentsAreFollowed : Type 0
 AssignmentsAreFollowed = (g : World) (a : Active) (pushed needs : ℕ) (place : Place) (f : Shape) (c : Scene) (w : Placing) (k : Banks) (t : State) (b o : ℕ) (v : Value)
     (n weight p : ℕ) (work : List Item) (vs : List Value) (seen : Seen)
     → IsPlacement g.code g.place → HasAt (lines_of g a) p (bytes_store place (extent_in f)) → Ready g a (pushed + held place) needs c w k t
-    → IsScalar f → Fits f v → ResultIs Valued w (width_in f) v t → MayHold place (extent_in f) → IsMeant g a w t place b o
+    → IsScalar f → Fits f v → ResultIs Valued w (width_in f) v t → MayHold place (extent_in f) → IsMeant g a w t place b o (bytes_in (extent_in f))
     → HasTurns g c.turns (place_in g a p) seen
     → ((j : ℕ) (x : Block) (v2 : Value) (later : Banks) (u : State) (after : Seen) → j < n
     → IsAssigned g a pushed needs place (extent_in f) c w k b x o (new_cells f v x.cells o) t later u
@@ -65,7 +65,7 @@ abbrev pub ValuesAreAssigned : Type 0
 ValuesAreAssigned = (g : World) (a : Active) (pushed needs : ℕ) (place : Place) (f : Shape) (c : Scene) (w : Placing) (k : Banks) (t : State) (b o : ℕ) (v : Value)
     (n weight p : ℕ) (work : List Item) (vs : List Value) (seen : Seen)
     → IsPlacement g.code g.place → HasAt (lines_of g a) p (store_code place (Whole (kind_in f))) → Ready g a (pushed + held place) needs c w k t
-    → IsScalar f → Fits f v → ResultIs Valued w (width_in f) v t → MayHold place (extent_in f) → IsMeant g a w t place b o
+    → IsScalar f → Fits f v → ResultIs Valued w (width_in f) v t → MayHold place (extent_in f) → IsMeant g a w t place b o (bytes_in (extent_in f))
     → HasTurns g c.turns (place_in g a p) seen
     → ((j : ℕ) (x : Block) (v2 : Value) (later : Banks) (u : State) (after : Seen) → j < n
     → AreTaken g a pushed needs (held place) c w k t (with_put c b x o (bytes_in (extent_in f)) (new_cells f v x.cells o)) later u → ResultIs Valued w (width_in f) v u

@@ -119,12 +119,12 @@ module _ (g : World) (a : Active) (pushed needs count b o d p : ℕ) (c : Scene)
     only : OnlyStored a (sp_of t) (At h.to) p count t u
     only = record {
       mem = λ n side beside. is_written n side ∙ copied_other (ax_of t) target origin t.mem n (λ i lt e. beside i (omega (arith, lt, h.counted)) (ap At (omega (arith, e, h.target_is))));
-      bank = λ i lt beside. meets.kept (Zp (20 + i)) (quiet.bank i lt);
+      bank = λ i lt beside. meets.kept (Zp (20 + i)) (quiet.silent.bank i lt);
       pushed = meets.pushed;
       frames = meets.frames;
-      input = meets.input ∙ ap (λ n. drop n t.input) quiet.taken;
-      output = meets.output ∙ ap (λ xs. t.output ++ xs) quiet.out ∙ append_nothing t.output;
-      ended = meets.ended ∙ quiet.ends ∙ sym r.joins.ended;
+      input = meets.input ∙ ap (λ n. drop n t.input) quiet.silent.taken;
+      output = meets.output ∙ ap (λ xs. t.output ++ xs) quiet.silent.out ∙ append_nothing t.output;
+      ended = meets.ended ∙ quiet.silent.ends ∙ sym r.joins.ended;
       bytes = bytes;
     }
 

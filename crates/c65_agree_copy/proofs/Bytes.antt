@@ -5,7 +5,7 @@ use Rattle.std.proofs.lemmas.Bool.Decides.{nat_tests}
 use Rattle.std.proofs.lemmas.List.Elements.{All-nil, All-cons}
 use Rattle.c65_meaning.specs.declared.action.Action.TheVariants.{OutsideObject, ReadOnly, EndedObject, PartialOverlap}
 use Rattle.c65_meaning.specs.Why.{Why, By, ◌>>=◌}
-use Rattle.c65_meaning.specs.Store.{Cell, Block, Store, Place, set_block, is_live, reached, reached_to_write, put_cell, carry}
+use Rattle.c65_meaning.specs.Store.{Cell, Block, Store, Place, set_block, reached, reached_to_write, put_cell, carry}
 use Rattle.c65_meaning.specs.State.{Scene}
 use Rattle.c65_meaning.specs.Step.{stored, carried, carried_byte, partly_overlap}
 use Rattle.c65_code.specs.LineState.{Bytes, write, State, IsBytes}
@@ -17,9 +17,10 @@ use Rattle.c65_agree_store.specs.Stands.{At, Placing, Banks, CellIs, IsAt, IsFre
 use Rattle.c65_agree_store.specs.Laws.{with_cells}
 use Rattle.c65_agree_state.specs.World.{World, Active}
 use Rattle.c65_agree_state.specs.Joins.{Joins}
+use Rattle.c65_agree_state.specs.Exprs.{bounds_of}
 use Rattle.c65_agree_rows.proofs.Quiet.{write_other, write_same}
 use Rattle.c65_agree_put.specs.Puts.{OnlyStored, AreLaid, MayPut, with_put, AreBanks}
-use Rattle.c65_agree_put.proofs.Puts.{puts_join, free_stays, ended_stays}
+use Rattle.c65_agree_put.proofs.Puts.{puts_join, free_stays, bounds_stay}
 use Rattle.c65_agree_copy.specs.Copies.{carried_on}
 
 -- ---- what a step of the meaning does
@@ -95,7 +96,7 @@ pub record GoesOn (c : Scene) (w : Placing) (m : Bytes) (c2 : Scene) (m2 : Bytes
   pub next : c2.next ≡ c.next
   pub turns : c2.turns ≡ c.turns
   pub out : c2.out ≡ c.out
-  pub ended : (b : ℕ) → is_live c.store b ≡ false → is_live c2.store b ≡ false
+  pub bounds : (b : ℕ) → bounds_of (c2.store b) ≡ bounds_of (c.store b)
   pub kept : (n : ℕ) → IsFree c.store w (At n) → (m2 n ≡ m n) × IsFree c2.store w (At n)
 
 module _ (g : World) (a : Active) (placed : IsPlacement g.code g.place) (w : Placing) (k : Banks) (t : State) (b d from to : ℕ) (from_is : w b ≡ Some (At from)) (to_is : w d ≡ Some (At to)) where
@@ -142,7 +143,7 @@ module _ (g : World) (a : Active) (placed : IsPlacement g.code g.place) (w : Pla
       next = refl;
       turns = refl;
       out = refl;
-      ended = ended_stays c w d s.block (At to) p 1 (λ i. s.source.cells o) block_at;
+      bounds = bounds_stay c w d s.block (At to) p 1 (λ i. s.source.cells o) block_at;
       kept = λ n f. (write_other m (to + p) (m (from + o)) n (λ e. f d s.block (At to) p block_at (omega (arith, s.fits, j.stands.whole d s.block s.is)) (ap At (sym e))), free_stays c w d s.block (At to) p 1 (λ i. s.source.cells o) block_at (At n) f);
     })
 
@@ -169,7 +170,7 @@ module _ (g : World) (a : Active) (placed : IsPlacement g.code g.place) (w : Pla
   pub all_bytes : (size o p done left : ℕ) (c c2 : Scene) (m : Bytes) → Joins g a c w k (with_memory t m) → carried_on size (Place b o) (Place d p) done left c ≡ Ok c2 → IsWhole c m (o + done) (p + done) left c2
   all_bytes size o p done zero c c2 m j e =
       let same : c ≡ c2 = cc in
-      subst (λ x. IsWhole c m (o + done) (p + done) 0 x) same (record { joins = j; goes_on = record { frames = refl; next = refl; turns = refl; out = refl; ended = λ e l. l; kept = λ n f. (refl, f) }; sources = λ bound le. All-nil (IsOpen g.place bound); targets = λ bound le. All-nil (IsOpen g.place bound) })
+      subst (λ x. IsWhole c m (o + done) (p + done) 0 x) same (record { joins = j; goes_on = record { frames = refl; next = refl; turns = refl; out = refl; bounds = λ e. refl; kept = λ n f. (refl, f) }; sources = λ bound le. All-nil (IsOpen g.place bound); targets = λ bound le. All-nil (IsOpen g.place bound) })
   all_bytes size o p done (suc left) c c2 m j e = go (λ c1 m1 j1 e1. all_bytes size o p (suc done) left c1 c2 m1 j1 e1) (carried_byte false done size c (Place b o) (Place d p)) refl e
     where
       go : ((c1 : Scene) (m1 : Bytes) → Joins g a c1 w k (with_memory t m1) → carried_on size (Place b o) (Place d p) (suc done) left c1 ≡ Ok c2 → IsWhole c1 m1 (o + suc done) (p + suc done) left c2)
@@ -192,4 +193,4 @@ module _ (g : World) (a : Active) (placed : IsPlacement g.code g.place) (w : Pla
           }
         where
           both_go_on : (c c1 c2 : Scene) (m m1 m2 : Bytes) → GoesOn c w m c1 m1 → GoesOn c1 w m1 c2 m2 → GoesOn c w m c2 m2
-          both_go_on c c1 c2 m m1 m2 x y = record { frames = y.frames ∙ x.frames; next = y.next ∙ x.next; turns = y.turns ∙ x.turns; out = y.out ∙ x.out; ended = λ e l. y.ended e (x.ended e l); kept = λ n f. let one = x.kept n f in let two = y.kept n one.1 in (two.0 ∙ one.0, two.1) }
+          both_go_on c c1 c2 m m1 m2 x y = record { frames = y.frames ∙ x.frames; next = y.next ∙ x.next; turns = y.turns ∙ x.turns; out = y.out ∙ x.out; bounds = λ e. y.bounds e ∙ x.bounds e; kept = λ n f. let one = x.kept n f in let two = y.kept n one.1 in (two.0 ∙ one.0, two.1) }

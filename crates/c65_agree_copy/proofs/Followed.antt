@@ -256,7 +256,7 @@ module _ (g : World) (a : Active) (pushed needs size b o d p : ℕ) (c c2 : Scen
               let high = others5 1 (inl (omega arith)) in
               let sp : zp5 0 + 256 * zp5 1 ≡ sp_of t = omega (arith, low, high) in
               record {
-                taken = record { ready = x.taken.ready; sp = x.taken.sp ∙ ap (λ y. y + 2) sp; frames = x.taken.frames; next = x.taken.next; ended = x.taken.ended; kept = λ q le f. x.taken.kept q (omega (arith, le, sp)) f; banks = x.taken.banks; own_bank = x.taken.own_bank };
+                taken = record { ready = x.taken.ready; sp = x.taken.sp ∙ ap (λ y. y + 2) sp; frames = x.taken.frames; next = x.taken.next; bounds = x.taken.bounds; kept = λ q le f. x.taken.kept q (omega (arith, le, sp)) f; banks = x.taken.banks; own_bank = x.taken.own_bank };
                 value = x.value ∙ ap (word_at t.mem) sp;
               }
 

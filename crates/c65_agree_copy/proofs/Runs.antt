@@ -87,12 +87,12 @@ module _ (g : World) (a : Active) (pushed needs size b o d p : ℕ) (c c2 : Scen
     scratch : OnlyScratch a.base (with_memory t later) u
     scratch = record {
       mem = λ n side. is_written n (above n side);
-      bank = λ i lt. meets.kept (Zp (20 + i)) (quiet.bank i lt);
+      bank = λ i lt. meets.kept (Zp (20 + i)) (quiet.silent.bank i lt);
       pushed = meets.pushed;
       frames = meets.frames;
-      input = meets.input ∙ ap (λ n. drop n t.input) quiet.taken;
-      output = meets.output ∙ ap (λ xs. t.output ++ xs) quiet.out ∙ append_nothing t.output;
-      ended = meets.ended ∙ quiet.ends ∙ sym r.joins.ended;
+      input = meets.input ∙ ap (λ n. drop n t.input) quiet.silent.taken;
+      output = meets.output ∙ ap (λ xs. t.output ++ xs) quiet.silent.out ∙ append_nothing t.output;
+      ended = meets.ended ∙ quiet.silent.ends ∙ sym r.joins.ended;
       bytes = bytes;
     }
       where
@@ -110,10 +110,10 @@ module _ (g : World) (a : Active) (pushed needs size b o d p : ℕ) (c c2 : Scen
             sp = sp;
             frames = goes_on.frames;
             next = goes_on.next;
-            ended = goes_on.ended;
+            bounds = goes_on.bounds;
             kept = λ n le f. let h = goes_on.kept n f in (is_written n (inr (omega (arith, le))) ∙ h.0, h.1);
             banks = λ d i lt. refl;
-            own_bank = λ none i. refl;
+            own_bank = λ i le. refl;
           };
           value = value meets.a meets.x;
         }

@@ -3,7 +3,7 @@ use Rattle.std.proofs.Common.{◌≡◌, ◌≢◌, ℕ, ◌+◌, ◌<◌, ◌�
 use Rattle.std.specs.Prelude.{length, IsTrue}
 use Rattle.std.proofs.lemmas.Bool.{cases_eq, cases_lt}
 use Rattle.std.proofs.lemmas.Bool.Decides.{nat_tests}
-use Rattle.c65_meaning.specs.Store.{Cell, Block, Store, set_block, is_live, lives_in}
+use Rattle.c65_meaning.specs.Store.{Cell, Block, Store, set_block}
 use Rattle.c65_meaning.specs.Shapes.{object_in, object_size}
 use Rattle.c65_meaning.specs.State.{Scene, rest_in, hard_sum}
 use Rattle.c65_csem.specs.Places.{is_fixed_object}
@@ -14,8 +14,10 @@ use Rattle.c65_agree_store.specs.Laws.{with_cells, ArePut}
 use Rattle.c65_agree_store.proofs.Keep.{block_same, block_other, stores_go_on_standing}
 use Rattle.c65_agree_state.specs.World.{World, Active, unit_in}
 use Rattle.c65_agree_state.specs.Fixed.{symbol_at, HasFor}
-use Rattle.c65_agree_state.specs.Joins.{Joins, IsRest, HasBank}
+use Rattle.c65_agree_state.specs.Joins.{Joins, IsRest, IsOfCall, HasBlock, HasBank}
+use Rattle.c65_agree_state.specs.Exprs.{bounds_of}
 use Rattle.c65_agree_state.proofs.Scratch.{constants_are_low}
+use Rattle.c65_agree_state.proofs.Parts.{lives_by}
 use Rattle.c65_agree_places.specs.Places.{stored_at}
 use Rattle.c65_agree_put.specs.Puts.{IsBeside, OnlyStored, AreLaid, IsOwn, IsNoConstant, MayPut, with_put, AreBanks, banks_in}
 use Rattle.c65_agree_put.specs.Laws.{PutsJoin, PutsAreKept, PutsAreTaken, BanksFollow, WaitingIsKept}
@@ -52,9 +54,9 @@ module _ (a : Active) (u : State) (k later : Banks) (banks : AreBanks a k u late
   bank_now d i e lt = ap (λ n. later n i) e ∙ banks.now i lt
 
   -- the byte of a spot that the active call reaches is the machine's
-  byte_now : (r : Spot) (size p : ℕ) → LiesIn r size → p < size → IsOwn a r → byte_in u.mem later r p ≡ stored_at u r p
-  byte_now (At at) size p lies lt own = refl
-  byte_now (Banked d i) size p lies lt own = bank_now d (i + p) own.0 (omega (arith, lies, lt))
+  byte_now : (r : Spot) (size p o n : ℕ) → LiesIn r size → p < size → IsOwn a r o n → byte_in u.mem later r p ≡ stored_at u r p
+  byte_now (At at) size p o n lies lt own = refl
+  byte_now (Banked d i) size p o n lies lt own = bank_now d (i + p) own.0 (omega (arith, lies, lt))
 
 -- ---- blocks
 
@@ -88,15 +90,12 @@ module _ (c : Scene) (w : Placing) (b : ℕ) (x : Block) (q : Spot) (o n : ℕ) 
       let h = was d y r at in
       f d h.block r i h.is (rw h.size lt)
 
-  pub ended_stays : (d : ℕ) → is_live c.store d ≡ false → is_live after d ≡ false
-  ended_stays d e = go (cases_eq d b)
+  pub bounds_stay : (d : ℕ) → bounds_of (after d) ≡ bounds_of (c.store d)
+  bounds_stay d = go (cases_eq d b)
     where
-      go : (d ≡ b) ⊎ (d ≡ b → ⊥) → is_live after d ≡ false
-      go (inl f) =
-          let live : is_live c.store d ≡ true = ap lives_in (ap c.store f ∙ here.is) ∙ here.live in
-          let clash : true ≡ false = sym live ∙ e in
-          cc
-      go (inr ne) = ap lives_in (block_other c.store b d later ne) ∙ e
+      go : (d ≡ b) ⊎ (d ≡ b → ⊥) → bounds_of (after d) ≡ bounds_of (c.store d)
+      go (inl f) = ap bounds_of (block_same c.store b d later f) ∙ sym (ap bounds_of (ap c.store f ∙ here.is))
+      go (inr ne) = ap bounds_of (block_other c.store b d later ne)
 
 -- ---- what is beside a place
 
@@ -131,7 +130,7 @@ module _ (g : World) (a : Active) (placed : IsPlacement g.code g.place) (c : Sce
   whole = j.stands.whole b x m.block.is
 
   there : (i : ℕ) → i < n → byte_in u.mem k2 q (o + i) ≡ stored_at u q (o + i)
-  there i lt = byte_now a u k k2 banks q x.size (o + i) (j.stands.lies b x q m.block) (omega (arith, lt, m.fits, whole)) m.own
+  there i lt = byte_now a u k k2 banks q x.size (o + i) o n (j.stands.lies b x q m.block) (omega (arith, lt, m.fits, whole)) m.own
 
   -- a byte of a live block that is none of these
   same_byte : (d : ℕ) (y : Block) (r : Spot) (p : ℕ) → IsAt c.store w d y r → p < y.holds → IsBeside q o n (beyond r p) → byte_in u.mem k2 r p ≡ byte_in t.mem k r p
@@ -184,6 +183,9 @@ module _ (g : World) (a : Active) (placed : IsPlacement g.code g.place) (c : Sce
       let h = was c w b x q o n new m.block d y r at in
       j.fixed.own i d p l h.block r fixed h.is (rw h.size lt) less e
 
+  owned_stay : (d : ℕ) (y : Block) (r : Spot) → IsAt (set_block c.store b (with_cells x o n new)) w d y r → 0 < y.size → IsOfCall a r → HasBlock c d
+  owned_stay d y r at some inside = let h = was c w b x q o n new m.block d y r at in j.owned d h.block r h.is (rw h.size some) inside
+
   stays_joined : Joins g a (with_put c b x o n new) w k2 u
   stays_joined = record {
     stands = stores_go_on_standing c.store w t.mem u.mem k k2 b x q o n new j.stands put;
@@ -193,6 +195,9 @@ module _ (g : World) (a : Active) (placed : IsPlacement g.code g.place) (c : Sce
     fresh = j.fresh;
     homes = j.homes;
     rests = rests_stay;
+    since = j.since;
+    begun = λ d le live. j.begun d le (sym (lives_by (set_block c.store b (with_cells x o n new) d) (c.store d) (bounds_stay c w b x q o n new m.block d)) ∙ live);
+    owned = owned_stay;
     active = j.active;
     calls = j.calls;
     as_many = j.as_many;
@@ -239,21 +244,24 @@ module _ (g : World) (a : Active) (placed : IsPlacement g.code g.place) (c : Sce
   pub still_free : (p : ℕ) → sp_of t ≤ p → IsFree c.store w (At p) → (u.mem p ≡ t.mem p) × IsFree (set_block c.store b (with_cells x o n new)) w (At p)
   still_free p le f = (s.mem p (inr le) (λ i lt e. f b x q (o + i) m.block (omega (arith, lt, m.fits, whole)) e), free_stays c w b x q o n new m.block (At p) f)
 
-  pub still_ended : (d : ℕ) → is_live c.store d ≡ false → is_live (set_block c.store b (with_cells x o n new)) d ≡ false
-  still_ended = ended_stays c w b x q o n new m.block
+  pub still_bound : (d : ℕ) → bounds_of (set_block c.store b (with_cells x o n new) d) ≡ bounds_of (c.store d)
+  still_bound = bounds_stay c w b x q o n new m.block
 
 -- the banks that stay
 module _ (g : World) (a : Active) (c : Scene) (w : Placing) (k later : Banks) (t u : State) (b : ℕ) (x : Block) (q : Spot) (o n : ℕ) (j : Joins g a c w k t) (m : MayPut g a c w b x q o n) (s : OnlyStored a (sp_of t) q o n t u) (banks : AreBanks a k u later) where
-  -- a place in regbank would be taken from it
-  no_bank : (q2 : Spot) → q ≡ q2 → a.frame.bank ≡ 0 → (i : ℕ) → IsBeside q o n (Banked (length a.behind) i)
-  no_bank (At at) e none i l lt f = let clash : At (at + (o + l)) ≡ Banked (length a.behind) i = ap (λ v. beyond v (o + l)) (sym e) ∙ f in cc
-  no_bank (Banked d p) e none i l lt f = (subst (λ v. IsOwn a v) e m.own).1 none
+  -- a byte that the frame does not take is none of them
+  no_bank : (q2 : Spot) → q ≡ q2 → (i : ℕ) → a.frame.bank ≤ i → IsBeside q o n (Banked (length a.behind) i)
+  no_bank (At at) e i le l lt f = let clash : At (at + (o + l)) ≡ Banked (length a.behind) i = ap (λ v. beyond v (o + l)) (sym e) ∙ f in cc
+  no_bank (Banked d p) e i le l lt f =
+      let clash : Banked d (p + (o + l)) ≡ Banked (length a.behind) i = ap (λ v. beyond v (o + l)) (sym e) ∙ f in
+      let same : p + (o + l) ≡ i = cc in
+      omega (arith, same, le, lt, (subst (λ v. IsOwn a v o n) e m.own).1)
 
-  own_stays : a.frame.bank ≡ 0 → (i : ℕ) → later (length a.behind) i ≡ k (length a.behind) i
-  own_stays none i = go (cases_lt i 6)
+  own_stays : (i : ℕ) → a.frame.bank ≤ i → later (length a.behind) i ≡ k (length a.behind) i
+  own_stays i few = go (cases_lt i 6)
     where
       go : (i < 6) ⊎ (6 ≤ i) → later (length a.behind) i ≡ k (length a.behind) i
-      go (inl lt) = banks.now i lt ∙ sym (s.bank i lt (no_bank q refl none i)) ∙ sym (j.bank i lt)
+      go (inl lt) = banks.now i lt ∙ sym (s.bank i lt (no_bank q refl i few)) ∙ sym (j.bank i lt)
       go (inr le) = banks.past i le
 
 pub puts_are_kept : PutsAreKept
@@ -264,7 +272,7 @@ puts_are_kept g a pushed needs c w k later t u b x q o n new placed r m s laid b
       sp = sp;
       frames = refl;
       next = omega arith;
-      ended = λ d lt e. still_ended g a placed c w t u b x q o n new whole m s d e;
+      bounds = λ d lt. still_bound g a placed c w t u b x q o n new whole m s d;
       grows = λ d r e. e;
       kept = still_free g a placed c w t u b x q o n new whole m s;
       banks = λ d i lt. banks.others d i (λ e. omega (arith, lt, e));
@@ -285,7 +293,7 @@ puts_are_taken g a pushed needs count c w k later t u b x q o n new placed r m s
       sp = sp;
       frames = refl;
       next = refl;
-      ended = still_ended g a placed c w t u b x q o n new whole m s;
+      bounds = still_bound g a placed c w t u b x q o n new whole m s;
       kept = λ p le f. still_free g a placed c w t u b x q o n new whole m s p (omega (arith, le)) f;
       banks = λ d i lt. banks.others d i (λ e. omega (arith, lt, e));
       own_bank = own_stays g a c w k later t u b x q o n r.joins m s banks;
@@ -297,11 +305,11 @@ waiting_is_kept g a pushed needs bytes c c2 c3 w w2 k k2 k3 t t1 t2 u push part 
   sp = omega (arith, take.sp, part.sp, push.sp);
   frames = take.frames ∙ part.frames;
   next = omega (arith, take.next, part.next);
-  ended = λ b lt e. take.ended b (part.ended b lt e);
+  bounds = λ b lt. take.bounds b ∙ part.bounds b lt;
   grows = part.grows;
   kept = kept;
   banks = λ d i lt. take.banks d i lt ∙ part.banks d i lt;
-  own_bank = λ none i. take.own_bank none i ∙ part.own_bank none i;
+  own_bank = λ i le. take.own_bank i le ∙ part.own_bank i le;
   none_pushed = take.ready.none_pushed;
 }
   where

@@ -214,19 +214,19 @@ module _ (g : World) (a : Active) (pushed needs : ℕ) (c : Scene) (w : Placing)
       is_written : (n : ℕ) → (n < stack_start) ⊎ (sp_of t ≤ n) → u.mem n ≡ written t.mem (listed (stored_bytes store t) (at + o)) n
       is_written n side = meets.mem n (kept side) ∙ ap (λ ws. written t.mem ws n) s.writes
         where
-          kept : (n < stack_start) ⊎ (sp_of t ≤ n) → (n + row.room < sp_of t) ⊎ ((sp_of t ≤ n) ⊎ (row.sp ≤ n))
+          kept : (n < stack_start) ⊎ (sp_of t ≤ n) → (n + row.room < sp_of t) ⊎ ((sp_of t ≤ n) ⊎ (row.settled ≤ n))
           kept (inl h) = inl (omega (arith, h, stacks.soft, s.quiet.room))
           kept (inr h) = inr (inl h)
 
       only : OnlyStored a (sp_of t) (At at) o (stored_size store) t u
       only = record {
         mem = λ n side beside. is_written n side ∙ listed_other t.mem (stored_bytes store t) (at + o) n (λ i lt e. beside i (omega (arith, lt, stored_length store t)) (ap At (omega (arith, e))));
-        bank = λ i lt beside. meets.kept (Zp (20 + i)) (s.quiet.bank i lt);
+        bank = λ i lt beside. meets.kept (Zp (20 + i)) (s.quiet.silent.bank i lt);
         pushed = meets.pushed;
         frames = meets.frames;
-        input = meets.input ∙ ap (λ n. drop n t.input) s.quiet.taken;
-        output = meets.output ∙ ap (λ xs. t.output ++ xs) s.quiet.out ∙ append_nothing t.output;
-        ended = meets.ended ∙ s.quiet.ends ∙ sym r.joins.ended;
+        input = meets.input ∙ ap (λ n. drop n t.input) s.quiet.silent.taken;
+        output = meets.output ∙ ap (λ xs. t.output ++ xs) s.quiet.silent.out ∙ append_nothing t.output;
+        ended = meets.ended ∙ s.quiet.silent.ends ∙ sym r.joins.ended;
         bytes = bytes;
       }
 

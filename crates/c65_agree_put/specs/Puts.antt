@@ -1,6 +1,6 @@
 -- Bytes of a place that are stored, and the scene with the cells that they are.
 use Rattle.std.specs.Prelude.{◌≡◌, ℕ, ◌+◌, ◌<◌, ◌≤◌, ◌⊎◌, ◌==◌, ◌&&◌, nat_lt, if◌then◌else◌, false, None, length}
-use Rattle.c65_meaning.specs.Store.{Cell, Block, set_block, is_live}
+use Rattle.c65_meaning.specs.Store.{Cell, Block, set_block}
 use Rattle.c65_meaning.specs.State.{Scene, with_store}
 use Rattle.c65_code.specs.declared.routine.Routine.{Routine}
 use Rattle.c65_code.specs.declared.routine.Routine.TheVariants as routines
@@ -10,7 +10,7 @@ use Rattle.c65_agree_store.specs.Stands.{Spot, At, Banked, Placing, Banks, CellI
 use Rattle.c65_agree_store.specs.Laws.{with_cells}
 use Rattle.c65_agree_state.specs.World.{World, Active}
 use Rattle.c65_agree_state.specs.Joins.{HasBank}
-use Rattle.c65_agree_state.specs.Exprs.{Ready}
+use Rattle.c65_agree_state.specs.Exprs.{Ready, bounds_of}
 use Rattle.c65_agree_places.specs.Places.{stored_at}
 
 -- ---- the machine
@@ -36,10 +36,10 @@ AreLaid w q o n new u = (i : ℕ) → i < n → CellIs w (new i) (stored_at u q 
 
 -- ---- the scene
 
--- what is in regbank is the active call's, whose frame takes some of it
-abbrev pub IsOwn : Active → Spot → Type 0
-IsOwn a (At at) = Unit {0}
-IsOwn a (Banked d i) = (d ≡ length a.behind) × (a.frame.bank ≡ 0 → ⊥)
+-- of what is in regbank the bytes are the active call's, and among those that its frame takes
+abbrev pub IsOwn : Active → Spot → ℕ → ℕ → Type 0
+IsOwn a (At at) o n = Unit {0}
+IsOwn a (Banked d i) o n = (d ≡ length a.behind) × (i + (o + n) ≤ a.frame.bank)
 
 -- no literal and no const datum has such a byte
 abbrev pub IsNoConstant : World → Spot → ℕ → ℕ → Type 0
@@ -49,7 +49,7 @@ IsNoConstant g q o n = (at i : ℕ) → q ≡ At at → i < n → g.place.consta
 pub record MayPut (g : World) (a : Active) (c : Scene) (w : Placing) (b : ℕ) (x : Block) (q : Spot) (o n : ℕ) : Type 0 where
   pub block : IsAt c.store w b x q
   pub fits : o + n ≤ x.holds
-  pub own : IsOwn a q
+  pub own : IsOwn a q o n
   pub writable : (x.sealed ≡ false) ⊎ IsNoConstant g q o n
 
 -- they are put
@@ -67,18 +67,18 @@ banks_in a u k d i = if (d == length a.behind) && nat_lt i 6 then u.zp (20 + i) 
 
 -- ---- waiting bytes that are taken
 
--- So many bytes that waited are taken off, in another scene: the calls are as before, no block lives again, and each byte from the new sp
--- on that no live block had stays, and no live block has it now; the regbanks of the calls behind stay, and that of the active call where
--- its frame takes none of it.
+-- So many bytes that waited are taken off, in another scene: the calls are as before, no block ends or lives again, and each byte from the
+-- new sp on that no live block had stays, and no live block has it now; the regbanks of the calls behind stay, and of that of the active
+-- call the bytes that its frame does not take.
 pub record AreTaken (g : World) (a : Active) (pushed needs count : ℕ) (c : Scene) (w : Placing) (k : Banks) (t : State) (c2 : Scene) (k2 : Banks) (u : State) : Type 0 where
   pub ready : Ready g a pushed needs c2 w k2 u
   pub sp : sp_of u ≡ sp_of t + count
   pub frames : c2.frames ≡ c.frames
   pub next : c2.next ≡ c.next
-  pub ended : (b : ℕ) → is_live c.store b ≡ false → is_live c2.store b ≡ false
+  pub bounds : (b : ℕ) → bounds_of (c2.store b) ≡ bounds_of (c.store b)
   pub kept : (n : ℕ) → sp_of t + count ≤ n → IsFree c.store w (At n) → (u.mem n ≡ t.mem n) × IsFree c2.store w (At n)
   pub banks : (d i : ℕ) → d < length a.behind → k2 d i ≡ k d i
-  pub own_bank : a.frame.bank ≡ 0 → (i : ℕ) → k2 (length a.behind) i ≡ k (length a.behind) i
+  pub own_bank : (i : ℕ) → a.frame.bank ≤ i → k2 (length a.behind) i ≡ k (length a.behind) i
 
 -- ---- routines that store
 

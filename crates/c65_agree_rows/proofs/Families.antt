@@ -33,6 +33,7 @@ record IsPush (bytes : List ℕ) (t : State) (row : Row) : Type 0 where
   quiet : IsQuiet row
   ready : row.ready ≡ true
   sp : row.sp ≡ sp_of t - length bytes
+  settled : row.settled ≡ sp_of t - length bytes
   writes : row.writes ≡ listed bytes (sp_of t - length bytes)
   near : row.near ≡ range_of (length bytes) (sp_of t - length bytes)
   far : row.far ≡ []
@@ -44,11 +45,11 @@ record HasPush (push : Pushing) (t : State) : Type 0 where
   pushes : IsPush (pushed_by push t) t row
 
 push_rows : (push : Pushing) (t : State) → HasPush push t
-push_rows Byte t = record { row = _; is = refl; pushes = record { quiet = quiet_row _ refl refl refl refl refl; ready = refl; sp = refl; writes = refl; near = refl; far = refl; few = omega arith } }
-push_rows Word t = record { row = _; is = refl; pushes = record { quiet = quiet_row _ refl refl refl refl refl; ready = refl; sp = refl; writes = refl; near = refl; far = refl; few = omega arith } }
-push_rows ByteAsWord t = record { row = _; is = refl; pushes = record { quiet = quiet_row _ refl refl refl refl refl; ready = refl; sp = refl; writes = refl; near = refl; far = refl; few = omega arith } }
-push_rows Zero t = record { row = _; is = refl; pushes = record { quiet = quiet_row _ refl refl refl refl refl; ready = refl; sp = refl; writes = refl; near = refl; far = refl; few = omega arith } }
-push_rows Long t = record { row = _; is = refl; pushes = record { quiet = quiet_row _ refl refl refl refl refl; ready = refl; sp = refl; writes = refl; near = refl; far = refl; few = omega arith } }
+push_rows Byte t = record { row = _; is = refl; pushes = record { quiet = quiet_row _ refl refl refl refl refl; ready = refl; sp = refl; settled = refl; writes = refl; near = refl; far = refl; few = omega arith } }
+push_rows Word t = record { row = _; is = refl; pushes = record { quiet = quiet_row _ refl refl refl refl refl; ready = refl; sp = refl; settled = refl; writes = refl; near = refl; far = refl; few = omega arith } }
+push_rows ByteAsWord t = record { row = _; is = refl; pushes = record { quiet = quiet_row _ refl refl refl refl refl; ready = refl; sp = refl; settled = refl; writes = refl; near = refl; far = refl; few = omega arith } }
+push_rows Zero t = record { row = _; is = refl; pushes = record { quiet = quiet_row _ refl refl refl refl refl; ready = refl; sp = refl; settled = refl; writes = refl; near = refl; far = refl; few = omega arith } }
+push_rows Long t = record { row = _; is = refl; pushes = record { quiet = quiet_row _ refl refl refl refl refl; ready = refl; sp = refl; settled = refl; writes = refl; near = refl; far = refl; few = omega arith } }
 
 module _ (g : World) (a : Active) (pushed needs : ℕ) (c : Scene) (w : Placing) (k : Banks) (t : State) (bytes : List ℕ) (row : Row) (placed : IsPlacement g.code g.place) (r : Ready g a pushed (1 + needs) c w k t) (p : IsPush bytes t row) where
   abbrev at : ℕ
@@ -80,7 +81,7 @@ module _ (g : World) (a : Active) (pushed needs : ℕ) (c : Scene) (w : Placing)
   push_are : (u : State) → Meets row t u → ArePushed bytes t u
   push_are u meets =
       let sp : sp_of u ≡ at = meets.sp ∙ p.sp in
-      let same : (n : ℕ) → at ≤ n → u.mem n ≡ written t.mem (listed bytes at) n = λ n le. meets.mem n (inr (inr (omega (arith, le, p.sp)))) ∙ ap (λ ws. written t.mem ws n) p.writes in
+      let same : (n : ℕ) → at ≤ n → u.mem n ≡ written t.mem (listed bytes at) n = λ n le. meets.mem n (inr (inr (omega (arith, le, p.settled)))) ∙ ap (λ ws. written t.mem ws n) p.writes in
       record {
         sp = omega (arith, sp, stacks.soft, p.few);
         waiting = rw sp (are_at_in (written t.mem (listed bytes at)) u.mem bytes at same (listed_are_at t.mem bytes at));

@@ -24,8 +24,9 @@ use Rattle.c65_agree_step.specs.Ways.{IsAtLine}
 use Rattle.c65_agree_step.proofs.Ways.{weaken, routines_go}
 use Rattle.c65_agree_state.specs.World.{World, program_in, setting_in}
 use Rattle.c65_agree_state.specs.Follows.{Agrees, Follows}
+use Rattle.c65_agree_state.specs.Laws.{OnlyScratch}
 use Rattle.c65_agree_state.proofs.Followed.{ready_is_calm}
-use Rattle.c65_agree_rows.specs.Rows.{IsQuiet, WriteBelow, AreAt}
+use Rattle.c65_agree_rows.specs.Rows.{IsSilent, IsQuiet, WriteBelow, AreAt}
 use Rattle.c65_agree_rows.specs.Laws.{QuietRowsScratch, RoutinesAreFollowed, Runs}
 
 pub append_nothing : (xs : List ℕ) → xs ++ [] ≡ xs
@@ -93,9 +94,13 @@ has_none (suc n) at s e (suc i) lt =
     let onward : at + suc i ≡ suc at + i = omega arith in
     rw onward (has_none n (suc at) s (neither (has_part s (Zp at)) (has_one n (suc at) s) e).1 i (omega (arith, lt)))
 
--- a row of 64 bytes of room that takes, writes and ends nothing, of a routine that leaves the six bytes of regbank
+-- a row that takes, writes and ends nothing, of a routine that leaves the six bytes of regbank
+pub silent_row : (row : Row) → row.taken ≡ 0 → row.out ≡ [] → row.ends ≡ None → has_one 6 20 row.changes ≡ false → IsSilent row
+silent_row row taken out ends none = record { taken = taken; out = out; ends = ends; bank = has_none 6 20 row.changes none }
+
+-- with 64 bytes of room
 pub quiet_row : (row : Row) → row.taken ≡ 0 → row.out ≡ [] → row.ends ≡ None → row.room ≡ 64 → has_one 6 20 row.changes ≡ false → IsQuiet row
-quiet_row row taken out ends room none = record { taken = taken; out = out; ends = ends; room = omega (arith, room); bank = has_none 6 20 row.changes none }
+quiet_row row taken out ends room none = record { silent = silent_row row taken out ends none; room = omega (arith, room) }
 
 -- a routine by its row
 pub runs_by : (g : World) (r : Routine) (t : State) (row : Row) (Behind : State → Type 0) → row_of r t ≡ Some row → HasRoom g.place row t → ((u : State) → Meets row t u → IsBytes u → Behind u) → Runs g r t Behind
@@ -103,8 +108,9 @@ runs_by g r t row Behind is access behind = record { room = rw is access; behind
 
 -- ---- the laws
 
-pub quiet_rows_scratch : QuietRowsScratch
-quiet_rows_scratch base row t u q below meets bytes running room le = record {
+-- where its room lies in the software stack
+pub silent_rows_scratch : (base : ℕ) (row : Row) (t u : State) → IsSilent row → WriteBelow base row.writes → Meets row t u → IsBytes u → t.ended ≡ None → 63472 + row.room ≤ sp_of t → sp_of t ≤ base → OnlyScratch base t u
+silent_rows_scratch base row t u q below meets bytes running room le = record {
   mem = λ n h. meets.mem n (side n h) ∙ written_other t.mem row.writes base n below h;
   bank = λ i lt. meets.kept (Zp (20 + i)) (q.bank i lt);
   pushed = meets.pushed;
@@ -115,9 +121,12 @@ quiet_rows_scratch base row t u q below meets bytes running room le = record {
   bytes = bytes;
 }
   where
-    side : (n : ℕ) → (n < 63472) ⊎ (base ≤ n) → (n + row.room < sp_of t) ⊎ ((sp_of t ≤ n) ⊎ (row.sp ≤ n))
-    side n (inl h) = inl (omega (arith, h, room, q.room))
+    side : (n : ℕ) → (n < 63472) ⊎ (base ≤ n) → (n + row.room < sp_of t) ⊎ ((sp_of t ≤ n) ⊎ (row.settled ≤ n))
+    side n (inl h) = inl (omega (arith, h, room))
     side n (inr h) = inr (inl (omega (arith, h, le)))
+
+pub quiet_rows_scratch : QuietRowsScratch
+quiet_rows_scratch base row t u q below meets bytes running room le = silent_rows_scratch base row t u q.silent below meets bytes running (omega (arith, room, q.room)) le
 
 pub routines_are_followed : RoutinesAreFollowed
 routines_are_followed g a pushed needs c w k t n v p m seen r ready there room behind d =

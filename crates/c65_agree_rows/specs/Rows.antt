@@ -11,12 +11,16 @@ use Rattle.c65_code.specs.Rows.{Row, long_at, number_of}
 use Rattle.c65_agree_numbers.specs.Words.{signed_byte, signed_long}
 
 -- A row that takes no input, writes no output, does not end the run, and leaves regbank alone.
-pub record IsQuiet (row : Row) : Type 0 where
+pub record IsSilent (row : Row) : Type 0 where
   pub taken : row.taken ≡ 0
   pub out : row.out ≡ []
   pub ends : row.ends ≡ None
-  pub room : row.room ≤ 64
   pub bank : (i : ℕ) → i < 6 → has_part row.changes (Zp (20 + i)) ≡ false
+
+-- and leaves other bytes in the 64 below sp alone, as all do but one that lowers sp by more
+pub record IsQuiet (row : Row) : Type 0 where
+  pub silent : IsSilent row
+  pub room : row.room ≤ 64
 
 -- each address that is written lies in the software stack, below a bound
 abbrev pub WriteBelow : ℕ → List (ℕ × ℕ) → Type 0

@@ -26,6 +26,7 @@ use Rattle.c65_code.specs.declared.code.DatumKind.TheVariants.{Const}
 use Rattle.c65_code.specs.declared.line.Sym.{Sym}
 use Rattle.c65_code.specs.LineState.{State}
 use Rattle.c65_code.specs.Placement.{IsDatumOf, IsFunction, size_of_datum, has_datum}
+use Rattle.c65_code.proofs.FunctionLaws.{function_from}
 use Rattle.c65_genframe.specs.declared.symbols.Numbers.{Numbers}
 use Rattle.c65_genframe.specs.Sizes.{bytes_or}
 use Rattle.c65_genframe.specs.Symbols.{numbers_of, object_symbol, literal_symbol, function_symbol}
@@ -41,6 +42,7 @@ use Rattle.c65_agree_data.proofs.Placed.{objects_begin, literals_begin}
 use Rattle.c65_agree_start.specs.First.{object_spot, program_spot}
 use Rattle.c65_agree_start.proofs.Sizes.{bytes_are_size}
 use Rattle.c65_agree_start.proofs.Data.{value_symbol, none_behind, literal_size, Fills, value_size, constant_kind}
+use Rattle.c65_agree_start.proofs.Bodies.{has_a_body}
 use Rattle.c65_agree_start.proofs.Given.{length_mapped, item_below, all_at, mapped, Given}
 
 -- ---- both and either
@@ -185,7 +187,7 @@ module _ (g : World) (names args : List (List ℕ)) (input : List ℕ) (t : Stat
       let count : (function_symbol n b).0 < length g.code.symbols = omega (arith, number, lt, h.code.symbols, length_mapped func_of g.parts.funcs.items) in
       let none : has_datum g.code.datums (function_symbol n b).0 ≡ false =
       ap (λ ds. has_datum ds (function_symbol n b).0) h.code.datums ∙ none_behind (types_of g.parts.types) n (map object_of g.parts.objects.items) g.parts.literals.items (function_symbol n b).0 (sym (length_mapped object_of g.parts.objects.items)) (omega (arith, number)) in
-      record { number = lt; at_is = refl; block = refl; is = ap (λ x. x && not (has_datum g.code.datums (function_symbol n b).0)) (less (function_symbol n b).0 (length g.code.symbols) count) ∙ ap not none; symbol = number }
+      record { number = lt; at_is = refl; block = refl; is = function_from g.code (function_symbol n b).0 count none (has_a_body g names args input t h b lt number); symbol = number }
 
   pub literal_at : (l : ℕ) (text : List ℕ) → slice_get g.parts.literals.items l ≡ Some text → IsDatumAt g t (literal_block (unit_in g) l) (text_block true (text ++ 0 ∷ [])) (g.place.address (literal_symbol n l).0)
   literal_at l text e =

@@ -17,7 +17,7 @@ use Rattle.c65_code.specs.LineState.{State, sp_of}
 use Rattle.c65_code.specs.Placement.{IsPlacement, stack_start}
 use Rattle.c65_code.specs.Starts.{IsStart}
 use Rattle.c65_gendata.specs.Data.{data_of}
-use Rattle.c65_gendata.specs.Symbols.{plain_symbol, is_external, literal_symbol, with_objects, with_literals, with_functions}
+use Rattle.c65_gendata.specs.Symbols.{plain_symbol, is_external, literal_symbol, with_objects, with_literals, with_functions, symbols_of}
 use Rattle.c65_genstmt.specs.Programs.{takes_arguments, functions_of, code_of, program_of}
 use Rattle.c65_agree_state.specs.World.{World, unit_in}
 
@@ -55,19 +55,21 @@ mapped f (x ∷ xs) (suc i) y e = let h = mapped f xs i y e in record { item = h
 -- ---- the code
 
 -- what is said of a program's code
-pub record IsCode (g : World) : Type 0 where
+pub record IsCode (g : World) (names : List (List ℕ)) : Type 0 where
+  pub functions : functions_of g.parts g.main g.modes ≡ Ok g.code.functions
+  pub spelled : g.code.symbols ≡ symbols_of names g.parts
   pub datums : g.code.datums ≡ data_of g.parts
   pub symbols : length g.code.symbols ≡ length g.parts.objects.items + length g.parts.literals.items + length g.parts.funcs.items
   pub main_args : g.code.main_args ≡ takes_arguments g.parts g.main
 
-objects_counted : (names : List (List ℕ)) (i : ℕ) (os : List TObject) (ss : List Symbol) → length (with_objects names i os ss) ≡ length ss + length os
+pub objects_counted : (names : List (List ℕ)) (i : ℕ) (os : List TObject) (ss : List Symbol) → length (with_objects names i os ss) ≡ length ss + length os
 objects_counted names i [] ss = omega arith
 objects_counted names i (o ∷ os) ss =
     let d = plain_symbol names (is_external o.class) o.name i in
     let both = length_both ss (d ∷ []) in
     objects_counted names (suc i) os (ss ++ d ∷ []) ∙ omega (arith, both)
 
-literals_counted : (i : ℕ) (texts : List (List ℕ)) (ss : List Symbol) → length (with_literals i texts ss) ≡ length ss + length texts
+pub literals_counted : (i : ℕ) (texts : List (List ℕ)) (ss : List Symbol) → length (with_literals i texts ss) ≡ length ss + length texts
 literals_counted i [] ss = omega arith
 literals_counted i (text ∷ texts) ss =
     let both = length_both ss (literal_symbol i ∷ []) in
@@ -81,8 +83,8 @@ functions_counted names i (f ∷ fs) ss =
     functions_counted names (suc i) fs (ss ++ d ∷ []) ∙ omega (arith, both)
 
 module _ (g : World) (names : List (List ℕ)) where
-  of_functions : (fs : List (Sym × Segment)) → code_of g.parts g.main names fs ≡ g.code → IsCode g
-  of_functions fs e = record { datums = ap (λ (c : Code). c.datums) (sym e); symbols = ap (λ (c : Code). length c.symbols) (sym e) ∙ count; main_args = ap (λ (c : Code). c.main_args) (sym e) }
+  of_functions : (fs : List (Sym × Segment)) → functions_of g.parts g.main g.modes ≡ Ok fs → code_of g.parts g.main names fs ≡ g.code → IsCode g names
+  of_functions fs made e = record { functions = made ∙ ap (λ (c : Code). let r : Result (List (Sym × Segment)) Fault = Ok c.functions in r) e; spelled = ap (λ (c : Code). c.symbols) (sym e); datums = ap (λ (c : Code). c.datums) (sym e); symbols = ap (λ (c : Code). length c.symbols) (sym e) ∙ count; main_args = ap (λ (c : Code). c.main_args) (sym e) }
     where
       objects : List Symbol
       objects = with_objects names 0 g.parts.objects.items []
@@ -97,17 +99,17 @@ module _ (g : World) (names : List (List ℕ)) where
           let three = functions_counted names (length g.parts.objects.items + length g.parts.literals.items) g.parts.funcs.items literals in
           omega (arith, one, two, three)
 
-  pub is_code : program_of g.parts g.main names g.modes ≡ Ok g.code → IsCode g
-  is_code e = go (functions_of g.parts g.main g.modes) e
+  pub is_code : program_of g.parts g.main names g.modes ≡ Ok g.code → IsCode g names
+  is_code e = go (functions_of g.parts g.main g.modes) refl e
     where
-      go : (r : Result (List (Sym × Segment)) Fault) → (r >>= λ fs. Ok (code_of g.parts g.main names fs)) ≡ Ok g.code → IsCode g
-      go (Err why) e = cc
-      go (Ok fs) e = of_functions fs cc
+      go : (r : Result (List (Sym × Segment)) Fault) → functions_of g.parts g.main g.modes ≡ r → (r >>= λ fs. Ok (code_of g.parts g.main names fs)) ≡ Ok g.code → IsCode g names
+      go (Err why) made e = cc
+      go (Ok fs) made e = of_functions fs made cc
 
 -- ---- all that is given
 
 pub record Given (g : World) (names args : List (List ℕ)) (input : List ℕ) (t : State) : Type 0 where
-  pub code : IsCode g
+  pub code : IsCode g names
   pub placed : IsPlacement g.code g.place
   pub start : IsStart g.code g.place args input t
   pub high : stack_start ≤ sp_of t

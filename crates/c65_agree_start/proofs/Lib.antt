@@ -1,6 +1,7 @@
 pub mod Sizes
 pub mod Data
 pub mod Given
+pub mod Bodies
 pub mod Blocks
 pub mod Held
 pub mod Program

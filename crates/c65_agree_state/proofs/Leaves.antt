@@ -44,11 +44,11 @@ scratch_is_kept g a pushed needs c w k t u placed r o sp = record {
   sp = sp;
   frames = refl;
   next = omega arith;
-  ended = λ b lt e. e;
+  bounds = λ b lt. refl;
   grows = λ b q e. e;
   kept = λ n le f. (o.mem n (inr le), f);
   banks = λ d i lt. refl;
-  own_bank = λ none i. refl;
+  own_bank = λ i le. refl;
   none_pushed = o.pushed ∙ r.none_pushed;
 }
   where

@@ -8,9 +8,18 @@ use Rattle.c65_code.specs.LineState.{State, sp_of}
 use Rattle.c65_agree_store.specs.Stands.{At, Placing, Banks, IsFree}
 use Rattle.c65_agree_state.specs.World.{World, Active}
 use Rattle.c65_agree_state.specs.Joins.{spot_of}
-use Rattle.c65_agree_state.specs.Exprs.{Kept}
+use Rattle.c65_agree_state.specs.Exprs.{Kept, bounds_of}
 use Rattle.c65_agree_state.specs.Stmts.{AreOpen, Between}
 use Rattle.c65_agree_state.specs.Laws.{KeptGoesOn, BetweenIsReady, BetweenStays, KeepingGoesOn}
+
+-- a block lives by its bounds
+pub lives_by : (o p : Option Block) → bounds_of o ≡ bounds_of p → lives_in o ≡ lives_in p
+lives_by None None e = refl
+lives_by None (Some y) e = cc
+lives_by (Some x) None e = cc
+lives_by (Some x) (Some y) e =
+    let same : (x.size, x.live) ≡ (y.size, y.live) = cc in
+    ap (λ (r : ℕ × Bool). r.1) same
 
 pub kept_goes_on : KeptGoesOn
 kept_goes_on g a c c2 c3 w w2 w3 k k2 k3 t t2 t3 h h2 = record {
@@ -18,11 +27,11 @@ kept_goes_on g a c c2 c3 w w2 w3 k k2 k3 t t2 t3 h h2 = record {
   sp = h2.sp ∙ h.sp;
   frames = h2.frames ∙ h.frames;
   next = omega (arith, h.next, h2.next);
-  ended = λ b lt e. h2.ended b (omega (arith, lt, h.next)) (h.ended b lt e);
+  bounds = λ b lt. h2.bounds b (omega (arith, lt, h.next)) ∙ h.bounds b lt;
   grows = λ b q e. h2.grows b q (h.grows b q e);
   kept = λ n le f. kept n le f;
   banks = λ d i lt. h2.banks d i lt ∙ h.banks d i lt;
-  own_bank = λ none i. h2.own_bank none i ∙ h.own_bank none i;
+  own_bank = λ i le. h2.own_bank i le ∙ h.own_bank i le;
   none_pushed = h2.none_pushed;
 }
   where
@@ -62,7 +71,7 @@ module _ (g : World) (a : Active) (needs : ℕ) (scope : List ℕ) (c c2 : Scene
       go : (l : Bool) → is_live c.store b ≡ l → is_among scope i ≡ true
       go true f = let x = lives_as c.store b (c.store b) refl f in h.scoped i b x.block e x.is x.live
       go false f =
-          let none : is_live c2.store b ≡ false = kept.ended b (begun i b e) f in
+          let none : is_live c2.store b ≡ false = lives_by (c2.store b) (c.store b) (kept.bounds b (begun i b e)) ∙ f in
           let clash : true ≡ false = sym live ∙ none in
           cc
 
@@ -83,11 +92,11 @@ between_stays g a needs scope c c2 w w2 k k2 t t2 h kept = stays_between g a nee
 pub keeping_goes_on : KeepingGoesOn
 keeping_goes_on g a needs scope first c c2 w1 w w2 k1 k k2 t1 t t2 h between part = record {
   next = omega (arith, h.next, part.next);
-  ended = λ b lt e. part.ended b (omega (arith, lt, h.next)) (h.ended b lt e);
+  bounds = λ b lt. part.bounds b (omega (arith, lt, h.next)) ∙ h.bounds b lt;
   grows = λ b q e. part.grows b q (h.grows b q e);
   kept = λ n le f. kept n le f;
   banks = λ d i lt. part.banks d i lt ∙ h.banks d i lt;
-  own_bank = λ none i. part.own_bank none i ∙ h.own_bank none i;
+  own_bank = λ i le. part.own_bank i le ∙ h.own_bank i le;
 }
   where
     kept : (n : ℕ) → a.base + a.frame.soft ≤ n → IsFree first.store w1 (At n) → (t2.mem n ≡ t1.mem n) × IsFree c2.store w2 (At n)

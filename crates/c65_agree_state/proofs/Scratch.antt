@@ -52,6 +52,9 @@ module _ (g : World) (a : Active) (placed : IsPlacement g.code g.place) (c : Sce
     fresh = j.fresh;
     homes = j.homes;
     rests = j.rests;
+    since = j.since;
+    begun = j.begun;
+    owned = j.owned;
     active = j.active;
     calls = j.calls;
     as_many = j.as_many;

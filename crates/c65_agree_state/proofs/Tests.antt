@@ -34,7 +34,7 @@ use Rattle.c65_agree_state.proofs.Followed.{follows_weaken, steps_earn, arrivals
 
 -- nothing has changed
 kept_itself : (g : World) (a : Active) (pushed needs : ℕ) (c : Scene) (w : Placing) (k : Banks) (t : State) → Ready g a pushed needs c w k t → Kept g a c w k t c w k t
-kept_itself g a pushed needs c w k t r = record { joins = r.joins; sp = refl; frames = refl; next = omega arith; ended = λ b lt e. e; grows = λ b q e. e; kept = λ n le f. (refl, f); banks = λ d i lt. refl; own_bank = λ none i. refl; none_pushed = r.none_pushed }
+kept_itself g a pushed needs c w k t r = record { joins = r.joins; sp = refl; frames = refl; next = omega arith; bounds = λ b lt. refl; grows = λ b q e. e; kept = λ n le f. (refl, f); banks = λ d i lt. refl; own_bank = λ i le. refl; none_pushed = r.none_pushed }
 
 -- a number of 32 bits is 0 where its residue is
 module _ (store : Store) where

@@ -1,10 +1,10 @@
 -- What the lines of an expression do: by continuation, so that ends, cut-offs and undefined actions need no cases.
-use Rattle.std.specs.Prelude.{◌≡◌, ℕ, ◌+◌, ◌*◌, ◌<◌, ◌≤◌, Bool, false, if◌then◌else◌, List, [], ◌∷◌, Some, Ok, length}
+use Rattle.std.specs.Prelude.{◌≡◌, ℕ, ◌+◌, ◌*◌, ◌<◌, ◌≤◌, Bool, false, if◌then◌else◌, List, [], ◌∷◌, Option, Some, None, Ok, length}
 use Rattle.std.specs.Bool.{beq}
 use Rattle.c65_csem.specs.Trees.{Typed, UnitTy}
 use Rattle.c65_csem.specs.Places.{is_place, is_registered}
 use Rattle.c65_csem_need.specs.Needs.{need}
-use Rattle.c65_meaning.specs.Store.{Store, Value, Place, Cells, NoValue, Shape, Number, is_live}
+use Rattle.c65_meaning.specs.Store.{Block, Store, Value, Place, Cells, NoValue, Shape, Number}
 use Rattle.c65_meaning.specs.Fits.{Fits}
 use Rattle.c65_meaning.specs.Operators.{truth_of}
 use Rattle.c65_meaning.specs.Shapes.{shape_of, bare_type}
@@ -72,19 +72,24 @@ ResultIs Registered w width v t = Unit {0}
 
 -- ---- what an expression keeps
 
--- Between the states t and u: sp and the active calls are as before, places were only gained, no block lives again, and each byte from
--- sp on that no live block had stays, and no live block has it now.
+-- the size of a block, and whether it lives
+abbrev pub bounds_of : Option Block → Option (ℕ × Bool)
+bounds_of None = None
+bounds_of (Some x) = Some (x.size, x.live)
+
+-- Between the states t and u: sp and the active calls are as before, places were only gained, of the blocks that there were none has
+-- ended or lives again, and each byte from sp on that no live block had stays, and no live block has it now.
 pub record Kept (g : World) (a : Active) (c : Scene) (w : Placing) (k : Banks) (t : State) (c2 : Scene) (w2 : Placing) (k2 : Banks) (u : State) : Type 0 where
   pub joins : Joins g a c2 w2 k2 u
   pub sp : sp_of u ≡ sp_of t
   pub frames : c2.frames ≡ c.frames
   pub next : c.next ≤ c2.next
-  pub ended : (b : ℕ) → b < c.next → is_live c.store b ≡ false → is_live c2.store b ≡ false
+  pub bounds : (b : ℕ) → b < c.next → bounds_of (c2.store b) ≡ bounds_of (c.store b)
   pub grows : Grows w w2
   pub kept : (n : ℕ) → sp_of t ≤ n → IsFree c.store w (At n) → (u.mem n ≡ t.mem n) × IsFree c2.store w2 (At n)
-  -- the regbanks of the calls behind stay, and that of the active call where its frame takes none of it
+  -- the regbanks of the calls behind stay, and of that of the active call the bytes that its frame does not take
   pub banks : (d i : ℕ) → d < length a.behind → k2 d i ≡ k d i
-  pub own_bank : a.frame.bank ≡ 0 → (i : ℕ) → k2 (length a.behind) i ≡ k (length a.behind) i
+  pub own_bank : (i : ℕ) → a.frame.bank ≤ i → k2 (length a.behind) i ≡ k (length a.behind) i
   pub none_pushed : u.pushed ≡ []
 
 -- the state u after an expression that began at t: its value is in the registers

@@ -1,6 +1,6 @@
 -- How a scene of the meaning and a state of the machine belong together.
 use Rattle.std.specs.Prelude.{◌≡◌, ℕ, ◌+◌, ◌<◌, ◌≤◌, ◌⊎◌, true, false, if◌then◌else◌, IsTrue, Option, Some, None, length}
-use Rattle.c65_meaning.specs.Store.{Block}
+use Rattle.c65_meaning.specs.Store.{Block, is_live}
 use Rattle.c65_meaning.specs.State.{Scene, block_in, rest_in, soft_sum, hard_sum}
 use Rattle.c65_meaning.specs.Step.{func_in, frames_below}
 use Rattle.c65_meaning.specs.Shapes.{literal_block, object_block, object_in, lives_in_frame}
@@ -36,6 +36,19 @@ pub record IsRest (a : Active) (c : Scene) (w : Placing) (b : ℕ) : Type 0 wher
   pub place : w b ≡ Some (rest_spot a)
   pub size : block.size ≡ a.raised
 
+-- from the base up: the automatic objects, the saved bytes of regbank, the further arguments, and the parameters
+abbrev pub call_bytes : Active → ℕ
+call_bytes a = a.frame.soft + (saved_bytes a.frame.bank + (a.raised + a.frame.stacked))
+
+-- the active call's part of the software stack, its regbank, or that of a call that is still to come
+abbrev pub IsOfCall : Active → Spot → Type 0
+IsOfCall a (At at) = (a.base ≤ at) × (at < a.base + call_bytes a)
+IsOfCall a (Banked d i) = length a.behind ≤ d
+
+-- the active call has the block for one of its objects, or for its further arguments
+abbrev pub HasBlock : Scene → ℕ → Type 0
+HasBlock c b = ((i : ℕ) × (block_in c.frames i ≡ Some b)) ⊎ (rest_in c.frames ≡ Some b)
+
 -- the active call has its regbank in the zero page
 abbrev pub HasBank : Banks → ℕ → State → Type 0
 HasBank k d t = (i : ℕ) → i < 6 → k d i ≡ t.zp (20 + i)
@@ -58,6 +71,10 @@ pub record Joins (g : World) (a : Active) (c : Scene) (w : Placing) (k : Banks) 
   -- the blocks of the active call have their places at home, also those that have ended, and the calls are those of the machine
   pub homes : (i b : ℕ) → block_in c.frames i ≡ Some b → w b ≡ Some (spot_of g a i)
   pub rests : (b : ℕ) → rest_in c.frames ≡ Some b → IsRest a c w b
+  -- which it has begun; and what it has begun and what lives there is its own
+  pub since : (b : ℕ) → HasBlock c b → a.first ≤ b
+  pub begun : (b : ℕ) → a.first ≤ b → is_live c.store b ≡ true → HasBlock c b
+  pub owned : (b : ℕ) (x : Block) (q : Spot) → IsAt c.store w b x q → 0 < x.size → IsOfCall a q → HasBlock c b
   pub active : func_in c.frames ≡ a.func
   pub calls : frames_below c.frames ≡ a.calls
   pub as_many : length a.calls ≡ length a.behind

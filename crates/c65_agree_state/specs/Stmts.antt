@@ -1,7 +1,7 @@
 -- What the lines of a statement do, and where jumps lead.
 use Rattle.std.specs.Prelude.{◌≡◌, ℕ, ◌+◌, ◌*◌, ◌<◌, ◌≤◌, ◌⊎◌, true, false, List, [], ◌∷◌, ◌++◌, Option, Some, None, length}
 use Rattle.c65_csem.specs.Trees.{Stmt}
-use Rattle.c65_meaning.specs.Store.{Block, Value, Shape, is_live}
+use Rattle.c65_meaning.specs.Store.{Block, Value, Shape}
 use Rattle.c65_meaning.specs.Items.{Item, Leave}
 use Rattle.c65_meaning.specs.After.{Landing, ToLabel, Left, after, is_among, up_to_call, up_to_break, up_to_continue}
 use Rattle.c65_meaning.specs.State.{Scene, Running, block_in, soft_sum}
@@ -17,7 +17,7 @@ use Rattle.c65_agree_store.specs.Stands.{At, Placing, Banks, Grows, IsFree}
 use Rattle.c65_agree_state.specs.World.{World, unit_in, Active, lines_of, place_in, HasAt, HasTurns}
 use Rattle.c65_agree_state.specs.Joins.{Joins}
 use Rattle.c65_agree_state.specs.Follows.{Follows}
-use Rattle.c65_agree_state.specs.Exprs.{Valued, MayFit, ResultIs, width_in}
+use Rattle.c65_agree_state.specs.Exprs.{Valued, MayFit, ResultIs, width_in, bounds_of}
 
 -- the objects of the active call with a live block are among those in scope
 abbrev pub AreOpen : List ℕ → Scene → Type 0
@@ -36,15 +36,15 @@ pub record Between (g : World) (a : Active) (needs : ℕ) (scope : List ℕ) (c 
 abbrev pub Covers : List ℕ → List ℕ → List ℕ → Type 0
 Covers scope left inner = (i : ℕ) → is_among scope i ≡ true → (is_among left i ≡ true) ⊎ (is_among inner i ≡ true)
 
--- what a call keeps for the one behind it, from its first statement on: no block lives again, and the free bytes above its own
+-- what a call keeps for the one behind it, from its first statement on: no block ends or lives again, and the free bytes above its own
 -- automatic objects stay, those among them where its entry has saved regbank
 pub record Keeping (a : Active) (c : Scene) (w : Placing) (k : Banks) (t : State) (c2 : Scene) (w2 : Placing) (k2 : Banks) (u : State) : Type 0 where
   pub next : c.next ≤ c2.next
-  pub ended : (b : ℕ) → b < c.next → is_live c.store b ≡ false → is_live c2.store b ≡ false
+  pub bounds : (b : ℕ) → b < c.next → bounds_of (c2.store b) ≡ bounds_of (c.store b)
   pub grows : Grows w w2
   pub kept : (n : ℕ) → a.base + a.frame.soft ≤ n → IsFree c.store w (At n) → (u.mem n ≡ t.mem n) × IsFree c2.store w2 (At n)
   pub banks : (d i : ℕ) → d < length a.behind → k2 d i ≡ k d i
-  pub own_bank : a.frame.bank ≡ 0 → (i : ℕ) → k2 (length a.behind) i ≡ k (length a.behind) i
+  pub own_bank : (i : ℕ) → a.frame.bank ≤ i → k2 (length a.behind) i ≡ k (length a.behind) i
 
 module _ (g : World) (a : Active) (needs : ℕ) (first : Scene) (w1 : Placing) (k1 : Banks) (t1 : State) (params : List ℕ) (result : Shape) (below : List Item) (vs : List Value) where
   -- at a place of the function, with some work ahead, for up to n steps: whatever scene has come, the rest is followed

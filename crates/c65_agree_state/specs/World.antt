@@ -39,14 +39,15 @@ program_in g = record { unit = unit_in g; main = g.main }
 abbrev pub setting_in : World → Setting
 setting_in g = setting_of g.code g.place
 
--- one call: the number of its function, and of that function's symbol, its frame, the sp while no value waits, by how many bytes the
--- parameters of a variadic function lie higher, the machine's frames behind it, the meaning's calls behind it, and how many bytes it may
+-- one call: the number of its function, and of that function's symbol, its frame, the sp while no value waits, the number of the first
+-- block that it began, by how many bytes the parameters of a variadic function lie higher, the machine's frames behind it, the meaning's calls behind it, and how many bytes it may
 -- push beside those of the values that wait, which some nodes do
 pub record Active : Type 0 where
   pub func : ℕ
   pub symbol : ℕ
   pub frame : Framed
   pub base : ℕ
+  pub first : ℕ
   pub raised : ℕ
   pub behind : List Frame
   pub calls : List Call

@@ -1,0 +1,10 @@
+pub mod Bytes
+pub mod Used
+pub mod Spots
+pub mod Places
+pub mod Values
+pub mod Loads
+pub mod Trees
+pub mod Ored
+pub mod Tests
+pub mod Known

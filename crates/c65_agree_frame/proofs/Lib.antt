@@ -1,0 +1,5 @@
+pub mod Leads
+pub mod Stack
+pub mod Banks
+pub mod Ends
+pub mod Entries

@@ -1,0 +1,5 @@
+use Rattle.c65_agree_frame.proofs.Banks.{banks_are_brought}
+use Rattle.c65_agree_frame.proofs.laws.banks_are_brought.Goals as goal
+
+pub returns : goal.returns
+returns c = banks_are_brought

@@ -1,0 +1,4 @@
+pub mod Leads
+pub mod Laws
+pub mod Ends
+pub mod Entries
