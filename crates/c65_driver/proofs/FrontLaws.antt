@@ -3,7 +3,6 @@ use Rattle.std.proofs.Common.{◌≡◌, ◌⊎◌, ℕ, inl, inr, List, Option,
 use Rattle.c65_base.specs.declared.options.Options.{Options}
 use Rattle.c65_base.specs.declared.refusal.Refusal.{Refusal}
 use Rattle.c65_base.specs.declared.refusal.Refusal.TheVariants.{OutOfMemory}
-use Rattle.c65_asm.specs.Text.{text_of}
 use Rattle.c65_code.specs.declared.code.Code.{Code}
 use Rattle.c65_io.specs.Contents.{Contents}
 use Rattle.c65_mach.specs.declared.image.Image.{Image}
@@ -13,7 +12,7 @@ use Rattle.c65_ppline.specs.Relations.{Answers, IsFree}
 use Rattle.c65_ppdir.specs.Units.{Held}
 use Rattle.c65_driver_chain.specs.Front.{command, compiled}
 use Rattle.c65_driver_words.specs.Commands.{Spelled}
-use Rattle.c65_driver.specs.Compiled.{ReadsAs, front, IsOfFront, IsOfSources}
+use Rattle.c65_driver.specs.Compiled.{IsPrintedAs, front, IsOfFront, IsOfSources}
 
 same_refusal : (A B : Type 0) (o : Options) (P : Answers Code) (code : Option Code) (r : Refusal) → IsOfFront {T = A} o P code (Err r) → IsOfFront {T = B} o P code (Err r)
 same_refusal A B o P None r made = made
@@ -59,6 +58,6 @@ sources_not c contents code o ds folders files r none options defines is of give
 
 -- a code, rewritten, as its text reads
 pub sources_read : (c : Spelled) (contents : Contents) (code new read : Code) (o : Options) (ds : List Define) (folders files : List (List ℕ)) (r : Result Image Refusal) → o ≡ c.options → ds ≡ c.defines → folders ≡ c.folders → files ≡ c.files
-    → ((held : Held) → contents ≡ Some held → compiled (command held o ds folders) files (Ok code)) → OptimisedBy c.options code new → ReadsAs (text_of new) read → IsOfSources {T = Image} c contents (Some read) r
+    → ((held : Held) → contents ≡ Some held → compiled (command held o ds folders) files (Ok code)) → OptimisedBy c.options code new → IsPrintedAs c.options.cpu new read → IsOfSources {T = Image} c contents (Some read) r
 sources_read c contents code new read o ds folders files r options defines is of given rewritten reads held told =
     (code, new, from_parts c held o ds folders files (Ok code) options defines is of (given held told), rewritten, reads)

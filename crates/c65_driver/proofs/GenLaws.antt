@@ -17,7 +17,7 @@ use Rattle.c65_sim.specs.Runs.{Runs, WriteCause}
 use Rattle.c65_driver_chain.specs.Refused.{StopsChain, StopsLater, UnitsLimit}
 use Rattle.c65_driver_words.specs.Commands.{Spelled}
 use Rattle.c65_driver.specs.Assembly.{AppendsBytes}
-use Rattle.c65_driver.specs.Compiled.{LinkedBy, IsLinked, Compiles, IsOfFront, IsOfSources, WriteServes, front}
+use Rattle.c65_driver.specs.Compiled.{IsRead, LinkedBy, IsLinked, Compiles, IsOfFront, IsOfSources, WriteServes, front}
 use Rattle.c65_driver.specs.Generated.{source_path, source_alone, source_command, IsOfSource, CompilesSource, in_memory, RunsAlone, StopsAlone, TellsRun, WritesLine, Generates}
 use Rattle.c65_driver.specs.Outside.{FilesSide, Outside}
 use Rattle.c65_driver.specs.Tool.{Gens}
@@ -77,7 +77,7 @@ source_stops command made source old new held code r is told alone compiles sour
     let cpu : LinkedBy command.options.cpu code (Err r) = subst (λ (c : Spelled). LinkedBy c.options.cpu code (Err r)) is compiles.from_code in
     record {
       refused = stops_inside r compiles.refused units;
-      from_text = compiles.from_text;
+      from_text = subst (λ (c : Spelled). IsRead c.options.cpu code) is compiles.from_text;
       from_code = linked_inside command.options.cpu code r cpu;
       from_source = λ h t. front_inside (source_command command) h code r (is_of h t);
     }
@@ -88,7 +88,7 @@ pub source_compiles : (command made : Spelled) (source : List ℕ) (old new : Fi
     → CompilesSource command source code (Ok image)
 source_compiles command made source old new held code image is told alone compiles sources = record {
   refused = tt;
-  from_text = compiles.from_text;
+  from_text = subst (λ (c : Spelled). IsRead c.options.cpu code) is compiles.from_text;
   from_code = subst (λ (c : Spelled). LinkedBy c.options.cpu code (Ok image)) is compiles.from_code;
   from_source = subst (λ (c : Contents). IsOfSources {T = Image} (source_command command) c code (Ok image)) (told ∙ ap (λ (h : Held). let x : Option Held = Some h in x) alone)
       (subst (λ (c : Spelled). IsOfSources {T = Image} c old.contents code (Ok image)) is sources);

@@ -64,7 +64,7 @@ fails_for cpu (Ok image) (TooLarge ImageSize value) fails = absurd (let both : �
 fails_for cpu (Ok image) r fails = absurd fails
 
 pub compiles_linked : (cpu : Cpu) (folders files : List (List ℕ)) (old new : FilesSide) (code : Code) (r : Result Image Refusal) → new.contents ≡ old.contents → new.writes ≡ old.writes
-    → new.faults ≡ old.faults → old.misses ≤ new.misses → length files ≤ limit_of Units → IsRead (Some code) → Gives r (linked_for cpu code) → Compiles cpu folders files old new (Some code) r
+    → new.faults ≡ old.faults → old.misses ≤ new.misses → length files ≤ limit_of Units → IsRead cpu (Some code) → Gives r (linked_for cpu code) → Compiles cpu folders files old new (Some code) r
 compiles_linked cpu folders files old new code (Ok image) same written faults misses few read gives = record {
   same = same;
   written = written;

@@ -1,16 +1,14 @@
 -- What `text` answers.
-use Rattle.std.proofs.Common.{◌≡◌, ℕ, ◌≤◌, Bool, List, length, None, Some, Option, Result, Ok, Err, sym, subst, ap, refl, ◌∙◌, arith}
+use Rattle.std.proofs.Common.{◌≡◌, ℕ, ◌≤◌, Bool, List, length, None, Some, Option, Result, Ok, Err, sym, subst, refl, ◌∙◌, arith}
 use Rattle.c65_base.specs.declared.refusal.Refusal.{Refusal}
 use Rattle.c65_base.specs.declared.refusal.Refusal.TheVariants.{OutOfMemory}
-use Rattle.c65_asm.specs.Text.{text_of}
-use Rattle.c65_asm.specs.Read.{read_text}
 use Rattle.c65_code.specs.declared.code.Code.{Code}
 use Rattle.c65_io.specs.Contents.{Contents}
 use Rattle.c65_mach.specs.declared.image.Image.{Image}
 use Rattle.c65_sim.specs.Runs.{WriteCause}
 use Rattle.c65_driver_words.specs.Commands.{Spelled}
 use Rattle.c65_driver.specs.Assembly.{printed, IsTextOf, AppendsBytes, TextTo, WritesText, Unwritten, MadeText}
-use Rattle.c65_driver.specs.Compiled.{ReadsAs, IsRead, Compiles, IsOfSources, WritesBytes, WriteServes, WritesImage}
+use Rattle.c65_driver.specs.Compiled.{Compiles, IsOfSources, WritesBytes, WriteServes, WritesImage}
 use Rattle.c65_driver.specs.Outside.{FilesSide, TextSide, Outside}
 use Rattle.c65_driver.specs.Tool.{Texts, TextsAlone}
 use Rattle.c65_driver.proofs.FrontLaws.{sources_stop, sources_go, sources_free}
@@ -127,10 +125,6 @@ texts_short command old new w o code image compiles sources = record {
   from_code = linked_wrote command.options.cpu code image (Err OutOfMemory) compiles.from_code;
   from_files = sources_go Image ℕ command old.contents code image (Err OutOfMemory) sources;
 }
-
--- what a text reads as is what its own text reads as
-pub read_again : (text : List ℕ) (code : Code) → ReadsAs text code → text_of code ≡ text → IsRead (Some code)
-read_again text code read is = ap read_text is ∙ read
 
 -- Writing it.
 

@@ -7,7 +7,10 @@ use Rattle.c65_base.specs.declared.refusal.Refusal.TheVariants.{OutOfMemory, Wri
 use Rattle.c65_asm.specs.Text.{text_of}
 use Rattle.c65_asm.specs.Read.{read_text}
 use Rattle.c65_asm.specs.declared.reading.Answer.TheVariants as answers
+use Rattle.c65_asm.specs.Renumbered.{IsOfTypes}
 use Rattle.c65_code.specs.declared.code.Code.{Code}
+use Rattle.c65_code.specs.Processors.{RunsOn}
+use Rattle.c65_code.specs.Writable.{IsWritable}
 use Rattle.c65_io.specs.Contents.{Contents, WritesFile}
 use Rattle.c65_mach.specs.declared.image.Image.{Image}
 use Rattle.c65_mach.specs.Images.{bytes_of}
@@ -42,10 +45,18 @@ IsLinked cpu (Some code) None (Err refusal) = Fails refusal (linked code)
 abbrev pub ReadsAs : List ℕ → Code → Type 0
 ReadsAs text code = read_text text ≡ answers.Code code
 
--- the code is what its own assembly text reads as
-abbrev pub IsRead : Option Code → Type 0
-IsRead None = ⊤
-IsRead (Some code) = ReadsAs (text_of code) code
+-- a code that can be written, whose numbers are of their types and whose rows the processor has, is printed, and its text reads as
+-- this code
+pub record IsPrintedAs (cpu : Cpu) (written code : Code) : Type 0 where
+  pub writable : IsWritable written
+  pub typed : IsOfTypes written
+  pub runs : RunsOn cpu written
+  pub reads : ReadsAs (text_of written) code
+
+-- the code is what its own assembly text reads as, and some code was printed that reads as it
+abbrev pub IsRead : Cpu → Option Code → Type 0
+IsRead cpu None = ⊤
+IsRead cpu (Some code) = ReadsAs (text_of code) code × ((written : Code) × IsPrintedAs cpu written code)
 
 -- the image of files: the files are as they were, and the counts rise with their cause alone
 pub record Compiles (cpu : Cpu) (folders files : List (List ℕ)) (old new : FilesSide) (code : Option Code) (answer : Result Image Refusal) : Type 0 where
@@ -55,7 +66,7 @@ pub record Compiles (cpu : Cpu) (folders files : List (List ℕ)) (old new : Fil
   pub missing : MissCause folders old.misses new.misses answer
   pub refused : IfErr answer StopsChain
   pub units : UnitsLimit (length files) answer
-  pub from_text : IsRead code
+  pub from_text : IsRead cpu code
   pub from_code : LinkedBy cpu code answer
 
 -- the code of a command's files, where it is told what each path holds, or their first refusal
@@ -67,7 +78,7 @@ front held c = compiled (command held c.options c.defines c.folders) c.files
 abbrev pub IsOfFront : {T : Type 0} → Options → Answers Code → Option Code → Result T Refusal → Type 0
 IsOfFront options P None (Ok x) = ⊥
 IsOfFront options P None (Err e) = IsFree e ⊎ P (Err e)
-IsOfFront options P (Some code) answer = (compiled : Code) × (new : Code) × P (Ok compiled) × OptimisedBy options compiled new × ReadsAs (text_of new) code
+IsOfFront options P (Some code) answer = (compiled : Code) × (new : Code) × P (Ok compiled) × OptimisedBy options compiled new × IsPrintedAs options.cpu new code
 
 -- of files that tell nothing, nothing is said
 abbrev pub IsOfSources : {T : Type 0} → Spelled → Contents → Option Code → Result T Refusal → Type 0

@@ -35,7 +35,7 @@ IsOfSource {T} command source code answer = IsOfSources {T = T} (source_command 
 -- the image of a source
 pub record CompilesSource (command : Spelled) (source : List ℕ) (code : Option Code) (answer : Result Image Refusal) : Type 0 where
   pub refused : IfErr answer StopsLater
-  pub from_text : IsRead code
+  pub from_text : IsRead command.options.cpu code
   pub from_code : LinkedBy command.options.cpu code answer
   pub from_source : IsOfSource command source code answer
 
@@ -100,6 +100,6 @@ MadeLine number None old new (Err refusal) = StopsLater refusal × (new ≡ old)
 pub record Generates (command : Spelled) (old new : Option (List ℕ)) (faults faults' : ℕ) (code : Option Code) (image : Option Image) (answer : Result ℕ Refusal) : Type 0 where
   pub write : WriteCause faults faults' answer
   pub line : MadeLine command.number image old new answer
-  pub from_text : IsRead code
+  pub from_text : IsRead command.options.cpu code
   pub from_code : IsLinked command.options.cpu code image answer
   pub from_source : IsOfSource command (generated_source command.number) code answer

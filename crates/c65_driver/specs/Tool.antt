@@ -69,7 +69,7 @@ pub record Goes (command : Spelled) (old new : Outside) (code : Option Code) (im
   pub files : new.files.contents ≡ old.files.contents
   pub file_writes : new.files.writes ≡ old.files.writes
   pub made : MadeRuns (setup_of true command) image old.left new.left old.written new.written answer
-  pub from_text : IsRead code
+  pub from_text : IsRead command.options.cpu code
   pub from_code : IsLinked command.options.cpu code image answer
   pub from_files : IsOfSources command old.files.contents code answer
 
@@ -82,7 +82,7 @@ pub record Builds (command : Spelled) (old new : FilesSide) (code : Option Code)
   pub write : WriteCause old.writes new.writes answer
   pub with_image : ServesWith image answer
   pub contents : BuildsFile (output_of command.out) image old.contents new.contents answer
-  pub from_text : IsRead code
+  pub from_text : IsRead command.options.cpu code
   pub from_code : IsLinked command.options.cpu code image answer
   pub from_files : IsOfSources command old.contents code answer
 
@@ -102,7 +102,7 @@ pub record Texts (command : Spelled) (old new : TextSide) (code : Option Code) (
   pub missing : HeaderCause command.folders old.files.misses new.files.misses answer
   pub with_image : ServesWith image answer
   pub text : MadeText command.known command.out code image old new answer
-  pub from_text : IsRead code
+  pub from_text : IsRead command.options.cpu code
   pub from_code : IsLinked command.options.cpu code image answer
   pub from_files : IsOfSources command old.files.contents code answer
 

@@ -1,28 +1,34 @@
 // The assembly text on the way to the linker, and where the command `text` writes it.
 ghost use Rattle.std.specs.Prelude.{◌≡◌, Some, IfOk, IfErr};
-ghost use Rattle.c65_asm.specs.Text.{text_of};
 ghost use Rattle.c65_driver.specs.Assembly;
 ghost use Rattle.c65_driver.specs.Assembly.{IsTextOf, AppendsBytes, WritesText};
-ghost use Rattle.c65_driver.specs.Compiled.{ReadsAs, IsRead, WriteServes};
+ghost use Rattle.c65_driver.specs.Compiled.{IsPrintedAs, IsRead, WriteServes};
 ghost use Rattle.c65_driver.specs.Outside.{text_side};
 ghost use Rattle.c65_sim.specs.Runs.{WriteCause};
 
 use crate::compiled::write_bytes;
 use crate::outcome::Made;
 use c65_asm::{print, print_known, read_printed};
-use c65_base::{Refusal, Text};
+use c65_asm_fit::{is_writable, runs_on};
+use c65_base::{Cpu, Refusal, Text};
 use c65_code::Code;
 use c65_driver_words::Command;
 use c65_io::{Failed, Files, Sink, write_all};
 use std::alloc::Global;
 
-/// What a code's assembly text reads as: the code, with its symbols in the order of the text.
-#[tactic(auto, using(crate::proofs::PrintLaws::read_again))]
-pub fn read_back(alloc: Global, code: &Code) -> Result<Code, Refusal>
-    ensures read { IfOk result (λ read. ReadsAs (text_of code.now) read) }
-    ensures again { IfOk result (λ read. IsRead (Some read)) }
+/// What a code's assembly text reads as: the code, with its symbols in the order of the text. That the code can be written, and that
+/// the processor has its rows, is tested: where it were not so, want of memory stands.
+pub fn read_back(alloc: Global, code: &Code, cpu: Cpu) -> Result<Code, Refusal>
+    ensures read { IfOk result (λ read. IsPrintedAs cpu code.now read) }
+    ensures again { IfOk result (λ read. IsRead cpu (Some read)) }
     ensures refused { IfErr result (λ refusal. refusal ≡ Refusal.OutOfMemory) }
 {
+    let Ok(true) = is_writable(alloc, code) else {
+        return Err(Refusal::OutOfMemory);
+    };
+    if !runs_on(code, cpu) {
+        return Err(Refusal::OutOfMemory);
+    }
     let text = match print(alloc, code) {
         Ok(text) => text,
         Err(_) => return Err(Refusal::OutOfMemory),

@@ -76,11 +76,12 @@ pub fn make_image<F: Files>(
         Ok(code) => code,
         Err(_) => return Err(Refusal::OutOfMemory),
     };
-    let code = match read_back(alloc, &code) {
+    let cpu = processor(command);
+    let code = match read_back(alloc, &code, cpu) {
         Ok(code) => code,
         Err(_) => return Err(Refusal::OutOfMemory),
     };
-    let linked = link_for(alloc, &code, processor(command));
+    let linked = link_for(alloc, &code, cpu);
     made.code = Some(code);
     linked
 }

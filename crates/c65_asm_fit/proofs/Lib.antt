@@ -1,0 +1,5 @@
+pub mod Letters
+pub mod Spelled
+pub mod Keyed
+pub mod Once
+pub mod Fitting
