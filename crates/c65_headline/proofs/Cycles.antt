@@ -15,7 +15,7 @@ use Rattle.c65_mach.specs.Table.{Entry, table, found, row_of, own_rows, or_row, 
 use Rattle.c65_mach.specs.Step.{bit, is_taken, more_cycles, place_of, row_at}
 use Rattle.c65_mach.specs.Run.{Progress, Running, Ended, Stopped, onward, is_hook, row_cycles, cycles_next, cycles_after}
 use Rattle.c65_headline.specs.Planned.{RowsTakeSeven}
-use Rattle.c65_headline.proofs.Codes.{both}
+use Rattle.c65_headline.proofs.Tests.{both}
 
 extra : Mode → Bool → ℕ
 extra Relative page = 2

@@ -1,8 +1,9 @@
+pub mod Grounds
+pub mod Tests
 pub mod Ways
 pub mod Frames
-pub mod Processors
-pub mod ReadBack
 pub mod Spelled
+pub mod BeforeEnd
 pub mod Codes
 pub mod Notes
 pub mod Agreement

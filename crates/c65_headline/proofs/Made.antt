@@ -1,8 +1,6 @@
 -- The code and the image that are made of a program.
 use Rattle.std.proofs.Common.{◌≡◌, ◌⊎◌, ◌∙◌, ℕ, Bool, true, false, List, Option, Some, None, Result, Ok, Err, inl, inr, refl, ap, sym, subst}
 use Rattle.std.specs.Prelude.{IsTrue, slice_get}
-use Rattle.c65_base.specs.declared.options.Cpu.{Cpu}
-use Rattle.c65_base.specs.declared.options.Cpu.TheVariants.{Nmos, Cmos}
 use Rattle.c65_base.specs.declared.options.Options.{Options}
 use Rattle.c65_base.specs.declared.refusal.Refusal.{Refusal}
 use Rattle.c65_base.specs.declared.refusal.Refusal.TheVariants as refusals
@@ -21,36 +19,32 @@ use Rattle.c65_csem.specs.Views.{unit_of}
 use Rattle.c65_code.specs.declared.code.Code.{Code}
 use Rattle.c65_code.specs.declared.code.Symbol.{Symbol}
 use Rattle.c65_code.specs.declared.code.Datum.{Datum}
+use Rattle.c65_code.specs.Named.{function}
 use Rattle.c65_code.specs.Placement.{has_datum}
-use Rattle.c65_code.specs.Processors.{IsNmos, RunsOn}
 use Rattle.c65_code.specs.Starts.{IsMain}
 use Rattle.c65_code.specs.Writable.{IsWritable}
 use Rattle.c65_asm.specs.Renumbered.{IsOfTypes, renumbered}
-use Rattle.c65_asm.specs.Text.{text_of}
-use Rattle.c65_asm.specs.declared.reading.Answer.TheVariants as answers
-use Rattle.c65_know_law.specs.Laws.{NotesAreTrue}
-use Rattle.c65_link_law_runtime.specs.Laws.{LinkedRuntimesAreMet}
 use Rattle.c65_link.specs.Linked.{linked, linked_for, undefined, Fails as LinkFails}
 use Rattle.c65_link.specs.Linked as linker
 use Rattle.c65_genframe.specs.declared.modes.Modes.{Modes}
 use Rattle.c65_genframe.specs.Modes.{modes_of}
+use Rattle.c65_genframe.specs.Symbols.{numbers_of, function_symbol}
 use Rattle.c65_genstmt.specs.Programs.{program_of}
-use Rattle.c65_gen_law_lines.proofs.RowLaws.{programs_are_nmos}
 use Rattle.c65_meaning.specs.Program.{ProgramTy}
 use Rattle.c65_driver_chain.specs.Front.{Command, programs, generated, compiled}
 use Rattle.c65_driver_words.specs.Commands.{Spelled}
-use Rattle.c65_driver.specs.Compiled.{IsLinked, IsOfFront, ReadsAs, front}
+use Rattle.c65_driver.specs.Compiled.{IsLinked, IsOfFront, front}
 use Rattle.c65_driver.specs.Outside.{Outside}
+use Rattle.c65_driver_law_images.proofs.Made.{printed_codes_read_back}
 use Rattle.c65_headline.specs.Images.{ImageAgrees}
-use Rattle.c65_headline.specs.Lines.{StandsForIf, StandsFor}
+use Rattle.c65_headline.specs.Lines.{LineAgrees, StandsForIf, StandsFor}
 use Rattle.c65_asm_law_names.specs.Numbers.{HasSegment, HasBody, IsClosed}
 use Rattle.c65_asm_law_names.proofs.Missing.{nothing_is_undefined}
 use Rattle.c65_headline.specs.Fronts.{command_of, IsFront, IsMadeOf, HasLargeFrame}
-use Rattle.c65_headline.specs.Planned.{Agreeing}
 use Rattle.c65_headline.specs.Headline.{Hinders, IsHindered}
 use Rattle.c65_headline.specs.Laws.{Laws}
+use Rattle.c65_headline.proofs.Grounds.{Grounds}
 use Rattle.c65_headline.proofs.Frames.{only_frames_are_refused}
-use Rattle.c65_headline.proofs.ReadBack.{codes_read_back}
 use Rattle.c65_headline.proofs.Codes.{two_moments, rewritten_if}
 use Rattle.c65_headline.proofs.Agreement.{image_agrees}
 use Rattle.c65_headline.proofs.Uniqueness.{is_value, no_value, one_program}
@@ -126,66 +120,58 @@ front_hinders units held command p code old new e c f (inr h) = elim (late units
 
 -- ---- the code that was made
 
-answer_is : (a b : Code) → answers.Code a ≡ answers.Code b → a ≡ b
-answer_is a b h = cc
-
-writable_if : (asked : Bool) (cpu : Cpu) (old new : Code) → StandsForIf asked cpu old new → (new ≡ old → IsWritable old × IsOfTypes old) → IsWritable new × IsOfTypes new
-writable_if false cpu old new e w = subst (λ (c : Code). IsWritable c × IsOfTypes c) (sym e) (w e)
-writable_if true cpu old new o w = (o.writable, o.of_types)
-
-runs_if : (asked : Bool) (cpu : Cpu) (old new : Code) → StandsForIf asked cpu old new → RunsOn cpu old → RunsOn cpu new
-runs_if false cpu old new e r = subst (λ (c : Code). RunsOn cpu c) (sym e) r
-runs_if true cpu old new o r = o.runs r
-
-runs_on : (cpu : Cpu) (code : Code) → IsNmos code → RunsOn cpu code
-runs_on Nmos code n = n
-runs_on Cmos code n = tt
-
-defined_if : (asked : Bool) (cpu : Cpu) (old new : Code) (main : ℕ) → StandsForIf asked cpu old new → HasSegment old main → HasSegment new main
-defined_if false cpu old new main e h = subst (λ (c : Code). HasSegment c main) (sym e) h
-defined_if true cpu old new main o h = o.defined main h
+defined_if : (asked : Bool) (old new : Code) (main : ℕ) → StandsForIf asked old new → HasSegment old main → HasSegment new main
+defined_if false old new main e h = subst (λ (c : Code). HasSegment c main) (sym e) h
+defined_if true old new main o h = o.defined main h
 
 -- a code with the same symbols and data whose functions have lines where they had lines
-body_in : (cpu : Cpu) (old new : Code) (i : ℕ) (symbol : Symbol) → StandsFor cpu old new → HasBody old i symbol → HasBody new i symbol
-body_in cpu old new i symbol o (inl h) = inl (o.defined i h)
-body_in cpu old new i symbol o (inr (inl h)) = inr (inl (subst (λ (d : List Datum). IsTrue (has_datum d i)) (sym o.datums) h))
-body_in cpu old new i symbol o (inr (inr h)) = inr (inr h)
+body_in : (old new : Code) (i : ℕ) (symbol : Symbol) → StandsFor old new → HasBody old i symbol → HasBody new i symbol
+body_in old new i symbol o (inl h) = inl (o.defined i h)
+body_in old new i symbol o (inr (inl h)) = inr (inl (subst (λ (d : List Datum). IsTrue (has_datum d i)) (sym o.datums) h))
+body_in old new i symbol o (inr (inr h)) = inr (inr h)
 
-closed_if : (asked : Bool) (cpu : Cpu) (old new : Code) → StandsForIf asked cpu old new → IsClosed old → IsClosed new
-closed_if false cpu old new e c = subst (λ (x : Code). IsClosed x) (sym e) c
-closed_if true cpu old new o c = λ i symbol there. body_in cpu old new i symbol o (c i symbol (subst (λ (s : List Symbol). slice_get s i ≡ Some symbol) o.symbols there))
+closed_if : (asked : Bool) (old new : Code) → StandsForIf asked old new → IsClosed old → IsClosed new
+closed_if false old new e c = subst (λ (x : Code). IsClosed x) (sym e) c
+closed_if true old new o c = λ i symbol there named. body_in old new i symbol o (c i symbol (subst (λ (s : List Symbol). slice_get s i ≡ Some symbol) o.symbols there) (o.names i named))
 
-main_if : (asked : Bool) (cpu : Cpu) (old new : Code) (main : ℕ) → StandsForIf asked cpu old new → IsMain old main → IsMain new main
-main_if false cpu old new main e h = subst (λ (c : Code). IsMain c main) (sym e) h
-main_if true cpu old new main o (symbol, there, spelled) = (symbol, subst (λ (s : List Symbol). slice_get s main ≡ Some symbol) (sym o.symbols) there, spelled)
+main_if : (asked : Bool) (old new : Code) (main : ℕ) → StandsForIf asked old new → IsMain old main → IsMain new main
+main_if false old new main e h = subst (λ (c : Code). IsMain c main) (sym e) h
+main_if true old new main o (symbol, there, spelled) = (symbol, subst (λ (s : List Symbol). slice_get s main ≡ Some symbol) (sym o.symbols) there, spelled)
 
-module _ (units : UnitsAreOne) (runtime : LinkedRuntimesAreMet) (notes : NotesAreTrue) (laws : Laws) (held : Held) (command : Spelled) where
+module _ (grounds : Grounds) (laws : Laws) (held : Held) (command : Spelled) where
   pub program_in : (code : Code) → IsMadeOf held command code → ProgramTy
   program_in code m = record { unit = unit_of m.parts; main = m.main }
 
-  is_written : (code : Code) (m : IsMadeOf held command code) → IsWritable m.rewritten × IsOfTypes m.rewritten
-  is_written code m =
-      writable_if command.options.optimise command.options.cpu m.generated m.rewritten m.rewrites
-      (λ same. laws.writable held command m.parts m.main m.names m.generated code m.front m.generates (subst (λ (c : Code). ReadsAs (text_of c) code) same m.reads))
+  -- the number of its main function's symbol
+  abbrev main_of : (code : Code) → IsMadeOf held command code → ℕ
+  main_of code m = (function_symbol (numbers_of m.parts) m.main).0
 
-  does_run : (code : Code) (m : IsMadeOf held command code) → RunsOn command.options.cpu m.rewritten
-  does_run code m = runs_if command.options.optimise command.options.cpu m.generated m.rewritten m.rewrites
-      (runs_on command.options.cpu m.generated (programs_are_nmos m.parts m.main m.names (modes_of command.options) m.generated m.generates))
+  has_main : (code : Code) (m : IsMadeOf held command code) → IsMain m.generated (main_of code m) × HasSegment m.generated (main_of code m)
+  has_main code m = grounds.mains m.parts m.main m.names (modes_of command.options) m.generated m.good.well_typed m.good.plain m.generates
+
+  is_closed : (code : Code) (m : IsMadeOf held command code) → IsClosed m.generated
+  is_closed code m = grounds.closed m.parts m.main m.names (modes_of command.options) m.generated m.good.well_typed m.good.scoped m.good.plain m.generates
+
+  is_written : (code : Code) (m : IsMadeOf held command code) → IsWritable m.rewritten × IsOfTypes m.rewritten
+  is_written code m = (m.printed.writable, m.printed.typed)
 
   pub is_renumbered : (code : Code) (m : IsMadeOf held command code) → code ≡ renumbered m.rewritten
-  is_renumbered code m = answer_is code (renumbered m.rewritten) (sym m.reads ∙ codes_read_back m.rewritten ((is_written code m).0) ((is_written code m).1))
+  is_renumbered code m = printed_codes_read_back command.options.cpu m.rewritten code m.printed
 
   pub made_agrees : (code : Code) (m : IsMadeOf held command code) (image : Image) → linked_for command.options.cpu code ≡ Ok image → ImageAgrees code (program_in code m) image
   unfolding program_in
   made_agrees code m image l =
-      let a : Agreeing (record { unit = unit_of m.parts; main = m.main }) m.generated = laws.lines m.parts m.main m.names (modes_of command.options) m.generated m.good m.generates in
+      let p : ProgramTy = record { unit = unit_of m.parts; main = m.main } in
+      let main : ℕ = main_of code m in
+      let known = has_main code m in
       let w = is_written code m in
-      subst (λ (c : Code). ImageAgrees c (record { unit = unit_of m.parts; main = m.main }) image) (sym (is_renumbered code m))
-      (image_agrees runtime notes command.options.cpu (record { unit = unit_of m.parts; main = m.main }) m.rewritten image a.main w.0 w.1 (does_run code m) (closed_if command.options.optimise command.options.cpu m.generated m.rewritten m.rewrites a.closed)
-      (main_if command.options.optimise command.options.cpu m.generated m.rewritten a.main m.rewrites a.is_main)
-      (defined_if command.options.optimise command.options.cpu m.generated m.rewritten a.main m.rewrites a.defined)
+      let agrees : LineAgrees p m.generated main = laws.lines m.parts m.main m.names (modes_of command.options) m.generated m.good m.generates in
+      subst (λ (c : Code). ImageAgrees c p image) (sym (is_renumbered code m))
+      (image_agrees grounds.runtime grounds.notes command.options.cpu p m.rewritten image main w.0 w.1 m.printed.runs
+      (main_if command.options.optimise m.generated m.rewritten main m.rewrites known.0)
+      (defined_if command.options.optimise m.generated m.rewritten main m.rewrites known.1)
       (subst (λ (c : Code). linked_for command.options.cpu c ≡ Ok image) (is_renumbered code m) l)
-      (rewritten_if command.options.optimise command.options.cpu (record { unit = unit_of m.parts; main = m.main }) m.generated m.rewritten a.main m.rewrites (two_moments (record { unit = unit_of m.parts; main = m.main }) m.generated a.main a.agrees)))
+      (rewritten_if command.options.optimise p m.generated m.rewritten main m.rewrites (two_moments p m.generated main agrees)))
 
   program_is : (u v : UnitTy) (a b : ℕ) (names more : List (List ℕ)) → (let x : Result ((UnitTy × ℕ) × List (List ℕ)) Refusal = Ok ((u, a), names) in x ≡ Ok ((v, b), more)) → (let x : ProgramTy = record { unit = u; main = a } in x ≡ record { unit = v; main = b })
   program_is u v a b names more h = let e : (u, a) ≡ (v, b) = pair_left (u, a) (v, b) names more h in ap (λ (z : UnitTy × ℕ). let x : ProgramTy = record { unit = z.0; main = z.1 } in x) e
@@ -194,15 +180,17 @@ module _ (units : UnitsAreOne) (runtime : LinkedRuntimesAreMet) (notes : NotesAr
   pub same_program : (code : Code) (m : IsMadeOf held command code) (p : ProgramTy) → IsFront held command p → program_in code m ≡ p
   unfolding program_in
   same_program code m p f = program_is (unit_of m.parts) p.unit m.main p.main m.names f.names
-      (one_program units (command_of held command) command.files (Ok ((unit_of m.parts, m.main), m.names)) (Ok ((p.unit, p.main), f.names)) tt tt m.front f.gives)
+      (one_program grounds.units (command_of held command) command.files (Ok ((unit_of m.parts, m.main), m.names)) (Ok ((p.unit, p.main), f.names)) tt tt m.front f.gives)
 
   undefined_never : (code : Code) (m : IsMadeOf held command code) (name : List ℕ) → linked code ≡ Err (undefined name) → ⊥
   undefined_never code m name l =
-      let a : Agreeing (record { unit = unit_of m.parts; main = m.main }) m.generated = laws.lines m.parts m.main m.names (modes_of command.options) m.generated m.good m.generates in
+      let main : ℕ = main_of code m in
+      let known = has_main code m in
       let w = is_written code m in
-      nothing_is_undefined m.rewritten a.main name w.0 w.1
-      (closed_if command.options.optimise command.options.cpu m.generated m.rewritten m.rewrites a.closed)
-      (main_if command.options.optimise command.options.cpu m.generated m.rewritten a.main m.rewrites a.is_main)
+      nothing_is_undefined m.rewritten main name w.0 w.1
+      (closed_if command.options.optimise m.generated m.rewritten m.rewrites (is_closed code m))
+      (main_if command.options.optimise m.generated m.rewritten main m.rewrites known.0)
+      (let d = defined_if command.options.optimise m.generated m.rewritten main m.rewrites known.1 in function d.at d.unit d.there d.is)
       (subst (λ (c : Code). linked c ≡ Err (undefined name)) (is_renumbered code m) l)
 
   linker_hinders : (p : ProgramTy) (code : Code) (m : IsMadeOf held command code) (old new : Outside) (e : Refusal) → LinkFails e (linked code) → Hinders p (modes_of command.options) (Some code) old new e
@@ -221,7 +209,7 @@ module _ (units : UnitsAreOne) (runtime : LinkedRuntimesAreMet) (notes : NotesAr
   pub hindered : (p : ProgramTy) → IsFront held command p → (old new : Outside) (code : Option Code) (image : Option Image) (answer : Result ℕ Refusal) → IsLinked command.options.cpu code image answer → IsOfFront command.options (front held command) code answer
       → ((c : Code) → code ≡ Some c → IsMadeOf held command c) → CauseIn old new answer → image ≡ None → IsHindered p (modes_of command.options) code old new answer
   hindered p f old new None None (Ok status) l g m c e = absurd l
-  hindered p f old new None None (Err r) l g m c e = front_hinders units held command p None old new r c f g
+  hindered p f old new None None (Err r) l g m c e = front_hinders grounds.units held command p None old new r c f g
   hindered p f old new None (Some i) answer l g m c e = absurd l
   hindered p f old new (Some k) (Some i) answer l g m c e = absurd (let h : (let x : Option Image = Some i in x ≡ None) = e in cc)
   hindered p f old new (Some k) None (Ok status) l g m c e = absurd l

@@ -18,7 +18,7 @@ use Rattle.c65_driver_words.specs.Values.{is_file, whole_by, is_digits, cycles_i
 use Rattle.c65_driver_words.specs.Words.{Told, nothing_told, compiles, may_stand, with_define, with_cycles, processor_in, with_processor, with_value, flag_in, value_in, has_place, with_file, with_number, with_operand, with_joined, takes_flag, set_flag, are_letters, with_letters, told_optimiser, told_processor, told_folder, told_define, told_value, told_flag, told_by, told_more, Is, NoCommand, is_whole, takes_args, command_by, args_from, given_at, words_from, kind_in, spelling_by, spelling_of}
 use Rattle.c65_headline.specs.Images.{AreBytes}
 use Rattle.c65_headline.specs.Planned.{WordsAreSpelled}
-use Rattle.c65_headline.proofs.Codes.{both}
+use Rattle.c65_headline.proofs.Tests.{both}
 
 -- what the words so far have told
 record IsTold (told : Told) : Type 0 where

@@ -8,10 +8,6 @@ use Rattle.c65_mach.specs.declared.image.Image.{Image}
 use Rattle.c65_code.specs.declared.code.Code.{Code}
 use Rattle.c65_ppfile.specs.Counts.{FaultCause}
 use Rattle.c65_ppdir.specs.Units.{Held}
-use Rattle.c65_ppdir_law.specs.Once.{UnitsAreOne}
-use Rattle.c65_meaning_law_turns.specs.Turns.{TurnsGoOn}
-use Rattle.c65_know_law.specs.Laws.{NotesAreTrue}
-use Rattle.c65_link_law_runtime.specs.Laws.{LinkedRuntimesAreMet}
 use Rattle.c65_sim.specs.Runs.{WriteCause}
 use Rattle.c65_meaning.specs.Program.{ProgramTy}
 use Rattle.c65_driver_words.specs.Commands.{Spelled}
@@ -29,6 +25,7 @@ use Rattle.c65_headline.specs.Fronts.{IsFront, IsMadeOf}
 use Rattle.c65_headline.specs.Planned.{IsSpelled}
 use Rattle.c65_headline.specs.Headline.{Means, IsWritten, Goes, Writes, Performs, IsMade, IsMadeBy, Headline}
 use Rattle.c65_headline.specs.Laws.{Laws, HeadlineHolds}
+use Rattle.c65_headline.proofs.Grounds.{Grounds}
 use Rattle.c65_headline.proofs.Made.{CauseIn, hindered, agreeing}
 use Rattle.c65_headline.proofs.Spelled.{words_are_spelled}
 use Rattle.c65_headline.proofs.Runs.{counted, runs_well}
@@ -36,17 +33,17 @@ use Rattle.c65_headline.proofs.Cycles.{rows_take_seven}
 
 -- ---- causes
 
-read_cause : (units : UnitsAreOne) (runtime : LinkedRuntimesAreMet) (notes : NotesAreTrue) (laws : Laws) (held : Held) (command : Spelled) (old new : Outside) (answer : Result ℕ Refusal)
-    → ReadCauses old.files.faults new.files.faults old.input_faults new.input_faults answer → CauseIn units runtime notes laws held command old new answer
-read_cause units runtime notes laws held command old new (Ok status) c = tt
-read_cause units runtime notes laws held command old new (Err refusals.ReadFault) c = c.2
-read_cause units runtime notes laws held command old new (Err _) c = tt
+read_cause : (grounds : Grounds) (laws : Laws) (held : Held) (command : Spelled) (old new : Outside) (answer : Result ℕ Refusal)
+    → ReadCauses old.files.faults new.files.faults old.input_faults new.input_faults answer → CauseIn grounds laws held command old new answer
+read_cause grounds laws held command old new (Ok status) c = tt
+read_cause grounds laws held command old new (Err refusals.ReadFault) c = c.2
+read_cause grounds laws held command old new (Err _) c = tt
 
-file_cause : (units : UnitsAreOne) (runtime : LinkedRuntimesAreMet) (notes : NotesAreTrue) (laws : Laws) (held : Held) (command : Spelled) (old new : Outside) (answer : Result ℕ Refusal)
-    → FaultCause old.files.faults new.files.faults answer → CauseIn units runtime notes laws held command old new answer
-file_cause units runtime notes laws held command old new (Ok status) c = tt
-file_cause units runtime notes laws held command old new (Err refusals.ReadFault) c = inl c.1
-file_cause units runtime notes laws held command old new (Err _) c = tt
+file_cause : (grounds : Grounds) (laws : Laws) (held : Held) (command : Spelled) (old new : Outside) (answer : Result ℕ Refusal)
+    → FaultCause old.files.faults new.files.faults answer → CauseIn grounds laws held command old new answer
+file_cause grounds laws held command old new (Ok status) c = tt
+file_cause grounds laws held command old new (Err refusals.ReadFault) c = inl c.1
+file_cause grounds laws held command old new (Err _) c = tt
 
 build_written : (old new : Outside) (answer : Result ℕ Refusal) → WriteServes answer → WriteCause old.files.writes new.files.writes answer → IsWritten old new answer
 build_written old new (Ok status) s c = s
@@ -84,51 +81,51 @@ runs_of setup (Some j) left left' written written' answer i m e =
 
 -- ---- each command
 
-module _ (units : UnitsAreOne) (turns : TurnsGoOn) (runtime : LinkedRuntimesAreMet) (notes : NotesAreTrue) (laws : Laws) (command : Spelled) (old new : Outside) (code : Option Code) (image : Option Image) (answer : Result ℕ Refusal)
+module _ (grounds : Grounds) (laws : Laws) (command : Spelled) (old new : Outside) (code : Option Code) (image : Option Image) (answer : Result ℕ Refusal)
     (held : Held) (p : ProgramTy) (told : old.files.contents ≡ Some held) (front : IsFront held command p) (made : (c : Code) → code ≡ Some c → IsMadeOf held command c) where
-  means : IsLinked command.options.cpu code image answer → IsOfSources command old.files.contents code answer → CauseIn units runtime notes laws held command old new answer → Means command p old new code image answer
+  means : IsLinked command.options.cpu code image answer → IsOfSources command old.files.contents code answer → CauseIn grounds laws held command old new answer → Means command p old new code image answer
   means linked sources cause = record {
-    builds = hindered units runtime notes laws held command p front old new code image answer linked (sources held told) made cause;
-    agrees = agreeing units runtime notes laws held command p front code image answer linked made;
+    builds = hindered grounds laws held command p front old new code image answer linked (sources held told) made cause;
+    agrees = agreeing grounds laws held command p front code image answer linked made;
   }
 
   pub goes : IsSpelled command → tools.Goes command old new code image answer → Goes command p old new code image answer
   goes spelled g =
-      let m : Means command p old new code image answer = means g.from_code g.from_files (read_cause units runtime notes laws held command old new answer g.read) in
+      let m : Means command p old new code image answer = means g.from_code g.from_files (read_cause grounds laws held command old new answer g.read) in
       record {
         means = m;
-        runs = λ i input e left given. runs_well (m.agrees i e).0 p i (m.agrees i e).2 (setup_of true command) (counted command.cycles spelled.cycles) input spelled.args given old new left rows_take_seven turns answer
+        runs = λ i input e left given. runs_well (m.agrees i e).0 p i (m.agrees i e).2 (setup_of true command) (counted command.cycles spelled.cycles) input spelled.args given old new left rows_take_seven grounds.turns answer
             (runs_of (setup_of true command) image old.left new.left old.written new.written answer i g.made e) g.read g.write;
       }
 
   pub builds : tools.BuildsAlone command old new code image answer → Writes command p old new code image answer
   builds b = record {
-    means = means b.builds.from_code b.builds.from_files (file_cause units runtime notes laws held command old new answer b.builds.read);
+    means = means b.builds.from_code b.builds.from_files (file_cause grounds laws held command old new answer b.builds.read);
     written = λ i e. build_written old new answer (served_with image answer i b.builds.with_image e) b.builds.write;
   }
 
   pub texts : tools.TextsAlone command old new code image answer → Writes command p old new code image answer
   texts b = record {
-    means = means b.texts.from_code b.texts.from_files (file_cause units runtime notes laws held command old new answer b.texts.read);
+    means = means b.texts.from_code b.texts.from_files (file_cause grounds laws held command old new answer b.texts.read);
     written = λ i e. made_written command.options.cpu command.known command.out code image old new answer i b.texts.from_code b.texts.text (served_with image answer i b.texts.with_image e) e;
   }
 
-performs : (units : UnitsAreOne) (turns : TurnsGoOn) (runtime : LinkedRuntimesAreMet) (notes : NotesAreTrue) (laws : Laws) (command : Spelled) (old new : Outside) (code : Option Code) (image : Option Image) (answer : Result ℕ Refusal)
+performs : (grounds : Grounds) (laws : Laws) (command : Spelled) (old new : Outside) (code : Option Code) (image : Option Image) (answer : Result ℕ Refusal)
     (held : Held) (p : ProgramTy) → old.files.contents ≡ Some held → IsFront held command p → (kind : CommandKind) → IsSpelled command → tools.Serves kind command old new code image answer → IsMadeBy kind command old code
     → Performs kind command p old new code image answer
-performs units turns runtime notes laws command old new code image answer held p told front kinds.Go spelled s a = goes units turns runtime notes laws command old new code image answer held p told front (λ c k. a held c told k) spelled s
-performs units turns runtime notes laws command old new code image answer held p told front kinds.Build spelled s a = builds units turns runtime notes laws command old new code image answer held p told front (λ c k. a held c told k) s
-performs units turns runtime notes laws command old new code image answer held p told front kinds.Text spelled s a = texts units turns runtime notes laws command old new code image answer held p told front (λ c k. a held c told k) s
-performs units turns runtime notes laws command old new code image answer held p told front kinds.Run spelled s a = tt
-performs units turns runtime notes laws command old new code image answer held p told front kinds.Gen spelled s a = tt
-performs units turns runtime notes laws command old new code image answer held p told front kinds.Depth spelled s a = tt
+performs grounds laws command old new code image answer held p told front kinds.Go spelled s a = goes grounds laws command old new code image answer held p told front (λ c k. a held c told k) spelled s
+performs grounds laws command old new code image answer held p told front kinds.Build spelled s a = builds grounds laws command old new code image answer held p told front (λ c k. a held c told k) s
+performs grounds laws command old new code image answer held p told front kinds.Text spelled s a = texts grounds laws command old new code image answer held p told front (λ c k. a held c told k) s
+performs grounds laws command old new code image answer held p told front kinds.Run spelled s a = tt
+performs grounds laws command old new code image answer held p told front kinds.Gen spelled s a = tt
+performs grounds laws command old new code image answer held p told front kinds.Depth spelled s a = tt
 
-by_spelling : UnitsAreOne → TurnsGoOn → LinkedRuntimesAreMet → NotesAreTrue → Laws → (words : List (List ℕ)) → All AreBytes words → (spelling : Spelling) → spelling_of words ≡ spelling
+by_spelling : Grounds → Laws → (words : List (List ℕ)) → All AreBytes words → (spelling : Spelling) → spelling_of words ≡ spelling
     → (old new : Outside) (code : Option Code) (image : Option Image) (answer : Result ℕ Refusal)
     → tools.Performs spelling old new code image answer → IsMade spelling old code → Headline spelling old new code image answer
-by_spelling units turns runtime notes laws words bytes (NoCommand word) e old new code image answer s a = tt
-by_spelling units turns runtime notes laws words bytes (Is command) e old new code image answer s a = λ held p told front.
-    performs units turns runtime notes laws command old new code image answer held p told front command.kind (words_are_spelled words command bytes e) s a
+by_spelling grounds laws words bytes (NoCommand word) e old new code image answer s a = tt
+by_spelling grounds laws words bytes (Is command) e old new code image answer s a = λ held p told front.
+    performs grounds laws command old new code image answer held p told front command.kind (words_are_spelled words command bytes e) s a
 
-pub holds : UnitsAreOne → TurnsGoOn → LinkedRuntimesAreMet → NotesAreTrue → HeadlineHolds
-holds units turns runtime notes laws words old new code image answer bytes s a = by_spelling units turns runtime notes laws words bytes (spelling_of words) refl old new code image answer s a
+pub holds : Grounds → HeadlineHolds
+holds grounds laws words old new code image answer bytes s a = by_spelling grounds laws words bytes (spelling_of words) refl old new code image answer s a

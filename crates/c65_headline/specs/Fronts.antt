@@ -10,10 +10,9 @@ use Rattle.c65_code.specs.declared.code.Code.{Code}
 use Rattle.c65_genframe.specs.declared.modes.Modes.{Modes}
 use Rattle.c65_genframe.specs.Modes.{modes_of}
 use Rattle.c65_genstmt.specs.Programs.{program_of}
-use Rattle.c65_asm.specs.Text.{text_of}
 use Rattle.c65_driver_chain.specs.Front.{Command, command, programs, IsGood}
 use Rattle.c65_driver_words.specs.Commands.{Spelled}
-use Rattle.c65_driver.specs.Compiled.{ReadsAs}
+use Rattle.c65_driver.specs.Compiled.{IsPrintedAs}
 use Rattle.c65_headline.specs.Lines.{StandsForBy}
 
 abbrev pub command_of : Held → Spelled → Command
@@ -24,7 +23,7 @@ pub record IsFront (held : Held) (c : Spelled) (p : ProgramTy) : Type 0 where
   pub names : List (List ℕ)
   pub gives : programs (command_of held c) c.files (Ok ((p.unit, p.main), names))
 
--- the code that was made is what the text of the program's code reads as, rewritten where that is asked for
+-- the code that was made is what the text of the program's code reads as, rewritten where that is asked for: it could be written
 pub record IsMadeOf (held : Held) (c : Spelled) (code : Code) : Type 0 where
   pub parts : Parts
   pub main : ℕ
@@ -35,7 +34,7 @@ pub record IsMadeOf (held : Held) (c : Spelled) (code : Code) : Type 0 where
   pub generates : program_of parts main names (modes_of c.options) ≡ Ok generated
   pub rewritten : Code
   pub rewrites : StandsForBy c.options generated rewritten
-  pub reads : ReadsAs (text_of rewritten) code
+  pub printed : IsPrintedAs c.options.cpu rewritten code
 
 -- the limit Frame: the generator refuses the program
 pub record HasLargeFrame (p : ProgramTy) (modes : Modes) (value : ℕ) : Type 0 where

@@ -4,29 +4,23 @@ use Rattle.c65_base.specs.Answers.{Fault, large}
 use Rattle.c65_base.specs.declared.refusal.Size.TheVariants as sizes
 use Rattle.c65_mach.specs.Run.{Setting, Progress, cycles_after}
 use Rattle.c65_code.specs.declared.code.Code.{Code}
-use Rattle.c65_code.specs.Starts.{IsMain}
-use Rattle.c65_code.specs.Writable.{IsWritable}
-use Rattle.c65_asm.specs.Renumbered.{IsOfTypes, renumbered}
-use Rattle.c65_asm.specs.Read.{read_text}
-use Rattle.c65_asm.specs.Text.{text_of}
-use Rattle.c65_asm.specs.declared.reading.Answer.TheVariants as answers
 use Rattle.c65_csem.specs.declared.items.Parts.{Parts}
 use Rattle.c65_csem.specs.Views.{unit_of}
 use Rattle.c65_genframe.specs.declared.modes.Modes.{Modes}
 use Rattle.c65_genframe.specs.Modes.{modes_of}
+use Rattle.c65_genframe.specs.Symbols.{numbers_of, function_symbol}
 use Rattle.c65_genstmt.specs.Programs.{program_of}
-use Rattle.c65_meaning.specs.Program.{ProgramTy}
 use Rattle.c65_ppdir.specs.Units.{Held}
 use Rattle.c65_driver_chain.specs.Front.{programs, IsGood}
 use Rattle.c65_driver_words.specs.Commands.{Spelled}
 use Rattle.c65_driver_words.specs.Words.{spelling_of, Is}
-use Rattle.c65_driver.specs.Compiled.{ReadsAs}
+use Rattle.c65_driver.specs.Compiled.{IsPrintedAs}
 use Rattle.c65_driver.specs.Setups.{setup_of}
 use Rattle.c65_headline.specs.Fronts.{command_of}
 use Rattle.c65_headline.specs.Images.{AreBytes}
-use Rattle.c65_optimise.specs.Optimised.{OptimisedBy}
-use Rattle.c65_asm_law_names.specs.Numbers.{HasSegment, IsClosed}
-use Rattle.c65_headline.specs.Lines.{LineAgrees, StandsForBy}
+use Rattle.c65_optimise.specs.Optimised.{IsOptimised}
+use Rattle.c65_opt_law_chains.specs.Laws.{FollowsUntilEndEverywhere}
+use Rattle.c65_headline.specs.Lines.{LineAgrees}
 
 -- ---- words
 
@@ -40,17 +34,11 @@ WordsAreSpelled = (words : List (List ℕ)) (command : Spelled) → All AreBytes
 
 -- ---- from a program to its code
 
--- the lines of a program's code show what its meaning shows, and whatever it names has a body
-pub record Agreeing (p : ProgramTy) (code : Code) : Type 0 where
-  pub main : ℕ
-  pub is_main : IsMain code main
-  pub defined : HasSegment code main
-  pub closed : IsClosed code
-  pub agrees : LineAgrees p code main
-
+-- from the first line of its main function on, the lines of a good program's code show what its meaning shows
 abbrev pub ProgramsAgree : Type 0
 ProgramsAgree = (parts : Parts) (main : ℕ) (names : List (List ℕ)) (modes : Modes) (code : Code)
-    → IsGood names (unit_of parts) main → program_of parts main names modes ≡ Ok code → Agreeing (record { unit = unit_of parts; main = main }) code
+    → IsGood names (unit_of parts) main → program_of parts main names modes ≡ Ok code
+    → LineAgrees (record { unit = unit_of parts; main = main }) code (function_symbol (numbers_of parts) main).0
 
 -- the generator refuses for the limit Frame alone
 abbrev pub OnlyFramesAreRefused : Type 0
@@ -59,22 +47,13 @@ OnlyFramesAreRefused = (parts : Parts) (main : ℕ) (names : List (List ℕ)) (m
 
 -- ---- from a code to the code that its text reads as
 
--- the code of the front's program can be written as text, where its text was read
-abbrev pub FrontsAreWritable : Type 0
-FrontsAreWritable = (held : Held) (command : Spelled) (parts : Parts) (main : ℕ) (names : List (List ℕ)) (code read : Code)
-    → programs (command_of held command) command.files (Ok ((unit_of parts, main), names)) → program_of parts main names (modes_of command.options) ≡ Ok code
-    → ReadsAs (text_of code) read → IsWritable code × IsOfTypes code
-
--- The code that the optimiser makes of the front's program, where its text was read, does what the program's code does and can be
--- written: each rewriting keeps what lines do.
+-- The functions of the code that the optimiser makes of the front's program, where it could be written, do what those of the program's
+-- code do, with the arrivals before the end: each rewriting keeps what lines do.
 abbrev pub RewritingsFollow : Type 0
 RewritingsFollow = (held : Held) (command : Spelled) (parts : Parts) (main : ℕ) (names : List (List ℕ)) (code new read : Code)
     → programs (command_of held command) command.files (Ok ((unit_of parts, main), names)) → program_of parts main names (modes_of command.options) ≡ Ok code
-    → OptimisedBy command.options code new → ReadsAs (text_of new) read → StandsForBy command.options code new
-
--- the text of a code that can be written reads as this code with its symbols numbered anew
-abbrev pub CodesReadBack : Type 0
-CodesReadBack = (code : Code) → IsWritable code → IsOfTypes code → read_text (text_of code) ≡ answers.Code (renumbered code)
+    → IsOptimised command.options code new → IsPrintedAs command.options.cpu new read
+    → (f : ℕ) → FollowsUntilEndEverywhere code new f
 
 -- ---- from a code to its image
 

@@ -2,9 +2,11 @@
 ghost use Rattle.c65_headline.specs.Planned.{RowsTakeSeven};
 ghost use Rattle.c65_headline.specs.Laws.{HeadlineHolds, HeadlineHoldsToday};
 
+use c65_gen_law_names::{main_has_lines, programs_are_closed};
 use c65_know_law::notes_are_true;
 use c65_link_law_runtime::linked_runtimes_are_met;
 use c65_meaning_law_turns::turns_go_on;
+use c65_opt_law_whole::optimised_names_nothing;
 use c65_ppdir_law::units_are_one;
 
 /// From the laws that are left, the tool's clause and the making of the code, the main theorem follows.
@@ -13,8 +15,11 @@ pub fn headline_holds()
 {
     units_are_one();
     turns_go_on();
-    linked_runtimes_are_met();
+    programs_are_closed();
+    main_has_lines();
+    optimised_names_nothing();
     notes_are_true();
+    linked_runtimes_are_met();
 }
 
 /// It follows from the laws that are left and the tool's clause, which says how the code was made.
@@ -23,8 +28,11 @@ pub fn headline_holds_today()
 {
     units_are_one();
     turns_go_on();
-    linked_runtimes_are_met();
+    programs_are_closed();
+    main_has_lines();
+    optimised_names_nothing();
     notes_are_true();
+    linked_runtimes_are_met();
 }
 
 /// A row takes at most 7 cycles, on either processor.

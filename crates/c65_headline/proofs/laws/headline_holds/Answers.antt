@@ -2,4 +2,12 @@ use Rattle.c65_headline.proofs.Top.{holds}
 use Rattle.c65_headline.proofs.laws.headline_holds.Goals as goal
 
 pub returns : goal.returns
-returns c = holds c.units_are_one.ensures c.turns_go_on.ensures c.linked_runtimes_are_met.ensures c.notes_are_true.ensures
+returns c = holds (record {
+  units = c.units_are_one.ensures;
+  turns = c.turns_go_on.ensures;
+  closed = c.programs_are_closed.ensures;
+  mains = c.main_has_lines.ensures;
+  names = c.optimised_names_nothing.ensures;
+  notes = c.notes_are_true.ensures;
+  runtime = c.linked_runtimes_are_met.ensures;
+})
