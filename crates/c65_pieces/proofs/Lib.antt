@@ -1,0 +1,11 @@
+mod Ahead
+mod Lookahead
+mod Further
+mod Opened
+mod Settling
+mod Adding
+mod Held
+mod Views
+mod Answering
+mod Only
+mod Cut

@@ -1,0 +1,6 @@
+pub mod Settled
+pub mod Scanned
+pub mod Given
+pub mod Pieces
+pub mod Answers
+pub mod Runs
