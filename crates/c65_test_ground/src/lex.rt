@@ -1,5 +1,5 @@
 use c65_base::{Code, Names, Refusal, Size};
-use c65_lex::{Lexer, PpKind, class_of};
+use c65_lex::{Lexer, PpKind, PpToken, class_of};
 use std::alloc::Global;
 use std::test::Fail;
 
@@ -16,26 +16,32 @@ fn letter(kind: PpKind) -> u8 {
     }
 }
 
-/// The tokens of a short text: of each a space where white space stands before it, its class, its
-/// line and its spelling.
-fn listed(alloc: Global, text: &[u8], header: bool) -> Result<Vec<u8>, Refusal> {
+/// A token in a list: a space where white space stands before it, its class, its line and its
+/// spelling.
+pub fn write_token(list: &mut Vec<u8>, names: &Names, token: PpToken) -> Result<(), Refusal> {
+    if token.space {
+        list.push(b' ')?;
+    }
+    list.push(letter(token.kind))?;
+    list.push(b'0' + (token.pos.line % 10) as u8)?;
+    list.push(b':')?;
+    if let Some(spelling) = names.spelling(token.spelling) {
+        list.extend_from_slice(spelling)?;
+    }
+    list.push(b'|')?;
+    Ok(())
+}
+
+/// The tokens of a text, of at most 999.
+pub fn listed(alloc: Global, text: &[u8], header: bool) -> Result<Vec<u8>, Refusal> {
     let mut names = Names::new(alloc);
     let mut lexer = Lexer::new(alloc, Vec::from_slice(alloc, text)?, 7);
     let mut list = Vec::new(alloc);
-    for _ in 0..100 {
+    for _ in 0..1_000 {
         let Some(token) = lexer.next(&mut names, header)? else {
             break;
         };
-        if token.space {
-            list.push(b' ')?;
-        }
-        list.push(letter(token.kind))?;
-        list.push(b'0' + (token.pos.line % 10) as u8)?;
-        list.push(b':')?;
-        if let Some(spelling) = names.spelling(token.spelling) {
-            list.extend_from_slice(spelling)?;
-        }
-        list.push(b'|')?;
+        write_token(&mut list, &names, token)?;
     }
     Ok(list)
 }

@@ -14,4 +14,6 @@ mod mach;
 #[cfg(test)]
 mod names;
 #[cfg(test)]
+mod pieces;
+#[cfg(test)]
 mod scan;

@@ -1,14 +1,18 @@
 //! The simulator and the machine against a second, slow interpreter: 3,000 images made from fixed seeds, each byte as an
-//! instruction in 32 made states, and all sums and differences in decimal mode.
+//! instruction in 32 made states, and all sums and differences in decimal mode; and the lines of the table `rows`, worked by
+//! hand.
 #![tactic(auto)]
 
 mod fuzz;
 mod images;
 mod single;
 mod slow;
+mod worked;
 
 use crate::fuzz::{IMAGES, run_images};
 use crate::single::{count_decimals, count_rows};
+use crate::worked::count_worked;
+use std::fs;
 
 fn main(rt: HostRuntime) -> Result<(), anyhow::Error> {
     let alloc = rt.alloc();
@@ -24,5 +28,8 @@ fn main(rt: HostRuntime) -> Result<(), anyhow::Error> {
         "decimal rows that agree: {} of 262144",
         count_decimals(alloc)?
     )?;
+    let table = fs::read_to_string(&rt, "rows")?;
+    let (right, lines) = count_worked(alloc, &table)?;
+    println!(rt; "rows by hand that agree: {right} of {lines}")?;
     Ok(())
 }
