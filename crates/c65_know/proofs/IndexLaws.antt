@@ -136,3 +136,15 @@ next_note lines notes way index backs at line n back none a b e f h =
     let found : back ≡ is_back this (drop (at + 1) lines) = e ∙ (ap (λ (bs : List Bool). get_or bs at none) b ∙ back_at lines at line none a) in
     f ∙ (ap (noted_at way index this) found ∙ (noted way index ways this (drop (at + 1) lines) h
     ∙ ap (note_at way ways this) (sym (take_rest lines (at + 1)))))
+
+-- one line more of those whose ways the index has
+pub index_on : (lines : List Line) (notes : List Note) (at : ℕ) (line : Line) (n : Note) (index : Index) → at < length lines → length lines ≡ length notes → IsIndex index (all_ways (take at lines) (take at notes))
+    → IsIndex (with_way (get_or lines at line) (get_or notes at n) index) (all_ways (take (at + 1) lines) (take (at + 1) notes))
+index_on lines notes at line n index a b h =
+    let this : Line = get_or lines at line in
+    let note : Note = get_or notes at n in
+    let ways : List Way = all_ways (take at lines) (take at notes) in
+    let pushed : all_ways (take (at + 1) lines) (take (at + 1) notes) ≡ ways ++ ways_of this note =
+    ap (λ x. all_ways x (take (at + 1) notes)) (take_more lines at line a) ∙ (ap (all_ways (take at lines ++ this ∷ [])) (take_more notes at n (omega arith))
+    ∙ all_push (take at lines) (take at notes) this note (length-take-le at lines (omega arith) ∙ sym (length-take-le at notes (omega arith)))) in
+    subst (IsIndex (with_way this note index)) (sym pushed) (more_ways index ways this note h)

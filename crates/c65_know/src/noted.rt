@@ -1,13 +1,13 @@
 // A segment with what is known at each of its lines.
-ghost use Rattle.std.specs.Prelude.{◌≡◌, ◌+◌, ◌≤◌, ◌++◌, length, take, drop, replicate, slice_get, option_map, OnOk, OnErr, IfOk, IfErr};
+ghost use Rattle.std.specs.Prelude.{◌≡◌, ◌+◌, ◌-◌, ◌≤◌, [], ◌++◌, length, take, drop, replicate, slice_get, option_map, OnOk, OnErr, IfOk, IfErr};
 ghost use Rattle.c65_base.specs.declared.refusal.Refusal.TheVariants.{OutOfMemory};
-ghost use Rattle.c65_code.specs.Segments.{IsSegment, replaced};
+ghost use Rattle.c65_code.specs.Segments.{IsSegment, replaced, targets_of};
 ghost use Rattle.c65_know.specs.Notes.{nothing_known, holds_of};
 ghost use Rattle.c65_know.specs.Known.{known_of, annotated};
 
-use crate::index::noted;
+use crate::index::{noted, renew_by_index};
 use crate::note::Note;
-use crate::ways::{are_straight, renew_straight};
+use crate::ways::{are_straight, renew_straight, stays_near};
 use c65_base::Refusal;
 use c65_code::{Line, Seg};
 use c65_mach::Machine;
@@ -62,22 +62,57 @@ fn with_gap(
     Ok(gap)
 }
 
-// What is known with other lines in place of some.
-fn noted_after(
+// Notes in place of no fewer others.
+fn overwrite(notes: &mut Vec<Note>, at: usize, count: usize, new: &[Note])
+    requires place { at + count ≤ length notes.old.items }
+    requires fewer { length new.now ≤ count }
+    ensures { notes.new.items ≡ take at notes.old.items ++ (new.now ++ drop (at + count) notes.old.items) }
+{
+    let end = at + new.len();
+    notes[at..end].copy_from_slice(new);
+    notes.drain(end..at + count);
+}
+
+// Other lines in place of some.
+fn joined(
     alloc: Global,
     old: &[Line],
     at: usize,
     count: usize,
     new: &[Line],
-) -> Result<Vec<Note>, AllocError>
+) -> Result<Vec<Line>, AllocError>
     requires { at + count ≤ length old.now }
-    ensures { IfOk result (λ notes. notes.items ≡ known_of (replaced old.now at count new.now)) }
+    ensures { IfOk result (λ lines. lines.items ≡ replaced old.now at count new.now) }
 {
     let mut lines = Vec::new(alloc);
     lines.extend_from_slice(&old[..at])?;
     lines.extend_from_slice(new)?;
     lines.extend_from_slice(&old[at + count..])?;
-    noted(alloc, &lines)
+    Ok(lines)
+}
+
+// What is known with other lines in place of some: from there on, where neither refer to a label, else all anew.
+fn noted_after(
+    alloc: Global,
+    old: &[Line],
+    notes: &[Note],
+    at: usize,
+    count: usize,
+    new: &[Line],
+) -> Result<Vec<Note>, AllocError>
+    requires place { at + count ≤ length old.now }
+    requires right { notes.now ≡ known_of old.now }
+    ensures { IfOk result (λ notes. notes.items ≡ known_of (replaced old.now at count new.now)) }
+{
+    let lines = joined(alloc, old, at, count, new)?;
+    let straight = are_straight(&old[at..at + count], new);
+    if !straight {
+        return noted(alloc, &lines);
+    }
+    let mut gap = with_gap(alloc, notes, at, count, new.len())?;
+    let rest = old.len() - (at + count);
+    renew_by_index(alloc, &lines, &mut gap, at, lines.len() - rest)?;
+    Ok(gap)
 }
 
 impl Noted {
@@ -117,8 +152,11 @@ impl Noted {
         ensures refused { IfErr result (λ refusal. refusal ≡ OutOfMemory) }
     {
         let old = self.seg.lines();
-        let straight = are_straight(&old[at..at + count], lines);
-        if straight {
+        let near = stays_near(old, &self.notes, at, count, lines);
+        if near {
+            if lines.len() <= count {
+                return self.replace_fewer(at, count, lines);
+            }
             let rest = old.len() - (at + count);
             let mut notes = with_gap(self.alloc, &self.notes, at, count, lines.len())?;
             self.seg.replace(at, count, lines)?;
@@ -127,9 +165,29 @@ impl Noted {
             self.notes = notes;
             return Ok(());
         }
-        let all = noted_after(self.alloc, old, at, count, lines)?;
+        let all = noted_after(self.alloc, old, &self.notes, at, count, lines)?;
         self.seg.replace(at, count, lines)?;
         self.notes = all;
+        Ok(())
+    }
+
+    // No more new lines than old ones, where neither refer to a label: the notes stay in place.
+    fn replace_fewer(&mut self, at: usize, count: usize, lines: &[Line]) -> Result<(), Refusal>
+        requires place { at + count ≤ length self.old.lines }
+        requires fewer { length lines.now ≤ count }
+        requires kept { IsSegment (replaced self.old.lines at count lines.now) }
+        requires old_straight { targets_of (take (at + count - at) (drop at self.old.lines)) ≡ [] }
+        requires new_straight { targets_of lines.now ≡ [] }
+        ensures ok { OnOk result (self.new ≡ annotated (replaced self.old.lines at count lines.now) self.old.out) }
+        ensures err { OnErr result (self.new ≡ self.old) }
+        ensures refused { IfErr result (λ refusal. refusal ≡ OutOfMemory) }
+    {
+        let rest = self.seg.lines().len() - (at + count);
+        let unknown = vec![in self.alloc; Note::nothing(); lines.len()]?;
+        self.seg.replace(at, count, lines)?;
+        overwrite(&mut self.notes, at, count, &unknown);
+        let now = self.seg.lines();
+        renew_straight(now, &mut self.notes, at, now.len() - rest);
         Ok(())
     }
 

@@ -1,5 +1,5 @@
 // What is known at each line: the ways on which a line comes, and the pass over the lines.
-ghost use Rattle.std.specs.Prelude.{◌≡◌, ◌-◌, ◌≤◌, [], false, true, Some, length, take, drop};
+ghost use Rattle.std.specs.Prelude.{◌≡◌, ◌+◌, ◌-◌, ◌≤◌, [], false, true, Some, length, take, drop};
 ghost use Rattle.c65_code.specs.Segments.{is_among, target_of, targets_of};
 ghost use Rattle.c65_know.specs.Notes.{nothing_known};
 ghost use Rattle.c65_know.specs.Known.{flow_of, after_flow, after_line, ways_of, all_ways, way_after, met, joined, note_at, known_of, IsNotedTo, IsPassed};
@@ -127,7 +127,7 @@ fn way_to(lines: &[Line], notes: &[Note], at: usize) -> Option<Note>
 }
 
 // Makes the notes from one line up to another right, and answers what is known on the way on.
-fn renew_to(lines: &[Line], notes: &mut [Note], from: usize, to: usize) -> Option<Note>
+pub(crate) fn renew_to(lines: &[Line], notes: &mut [Note], from: usize, to: usize) -> Option<Note>
     requires order { from ≤ to }
     requires place { to ≤ length lines.now }
     requires lengths { length lines.now ≡ length notes.old }
@@ -161,7 +161,7 @@ fn renew(lines: &[Line], notes: &mut [Note], from: usize)
     let _ = renew_to(lines, notes, from, end);
 }
 
-fn refers(line: &Line) -> bool
+pub(crate) fn refers(line: &Line) -> bool
     ensures { result ≡ false → target_of line.now ≡ [] }
 {
     matches!(line, Line::Do(_, _, Operand::To(_)))
@@ -187,6 +187,57 @@ pub(crate) fn are_straight(some: &[Line], others: &[Line]) -> bool
         return false;
     }
     is_straight(others)
+}
+
+// On the way on from some lines; none where none leads there.
+fn way_behind(way: Option<Note>, lines: &[Line]) -> Option<Note> {
+    let mut way = way;
+    for line in lines {
+        way = after_line(line, way?);
+    }
+    way
+}
+
+// Whether the notes of lines stand again, on another way there, before one of them is a label or refers to one.
+fn stand_soon(way: Option<Note>, lines: &[Line], notes: &[Note]) -> bool {
+    let mut way = way;
+    for (line, old) in lines.iter().zip(notes) {
+        let Some(note) = way else {
+            return false;
+        };
+        if matches!(line, Line::Label(_)) {
+            return false;
+        }
+        if note.is_same(old) {
+            return true;
+        }
+        if refers(line) {
+            return false;
+        }
+        way = after_line(line, note);
+    }
+    true
+}
+
+/// Whether other lines in place of some leave the notes of all labels and the ways to them: neither refer to a label, and the notes
+/// behind them stand again before a line does or is one.
+pub(crate) fn stays_near(
+    lines: &[Line],
+    notes: &[Note],
+    at: usize,
+    count: usize,
+    new: &[Line],
+) -> bool
+    requires place { at + count ≤ length lines.now }
+    requires lengths { length lines.now ≡ length notes.now }
+    ensures { result ≡ true → (targets_of (take (at + count - at) (drop at lines.now)) ≡ []) × (targets_of new.now ≡ []) }
+{
+    if !are_straight(&lines[at..at + count], new) {
+        return false;
+    }
+    let way = way_behind(way_to(lines, notes, at), new);
+    let rest = at + count;
+    stand_soon(way, &lines[rest..], &notes[rest..])
 }
 
 // Makes the notes from a line on right, which are those of a pass that came there with the same ways to labels: from the

@@ -1,12 +1,11 @@
 -- How the line is found before which nothing changes.
-use Rattle.std.proofs.Common.{◌≡◌, inl, inr, ◌&&◌, ℕ, zero, suc, ◌+◌, ◌-◌, ◌<◌, ◌≤◌, Bool, true, false, IsTrue, List, [], ◌∷◌, ◌++◌, length, take, drop, get_or, refl, sym, ◌∙◌, ap, subst, arith}
+use Rattle.std.proofs.Common.{◌≡◌, inl, inr, ◌&&◌, ℕ, suc, ◌+◌, ◌-◌, ◌<◌, ◌≤◌, true, false, IsTrue, List, ◌∷◌, ◌++◌, length, take, drop, get_or, sym, ◌∙◌, ap, subst, arith}
 use Rattle.std.proofs.lemmas.List.{drop_more}
-use Rattle.c65_code.specs.declared.parts.Part.{Part}
 use Rattle.c65_code.specs.declared.parts.RegSet.{RegSet}
 use Rattle.c65_code.specs.declared.line.Line.{Line}
 use Rattle.c65_code.specs.Parts.{has_part, no_parts, minus_of}
 use Rattle.c65_live.specs.declared.renew.Sides.{Sides}
-use Rattle.c65_live.specs.Renewals.{is_plain, are_plain, before_line, before_all, widened, AreSettled, IsSettledBefore, IsEdge}
+use Rattle.c65_live.specs.Renewals.{is_plain, are_plain, before_all, widened, AreSettled, IsSettledBefore}
 use Rattle.c65_live.proofs.Sets.{minus_in, in_minus, yes_or_no}
 
 -- what is lost is nothing that is live behind

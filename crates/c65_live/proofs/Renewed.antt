@@ -1,21 +1,20 @@
 -- The table of lines in place of others is right where all ways through their place go straight.
-use Rattle.std.proofs.Common.{◌≡◌, ◌⊎◌, inl, inr, ◌&&◌, ℕ, zero, suc, ◌+◌, ◌-◌, ◌<◌, ◌≤◌, not, Bool, true, false, IsTrue, List, [], ◌∷◌, ◌++◌, Option, Some, None, length, take, drop, get_or, slice_get, nat_eq, cond, if◌then◌else◌, ◌==◌, refl, sym, ◌∙◌, ap, subst, arith, length-append, length-drop}
+use Rattle.std.proofs.Common.{◌≡◌, ◌⊎◌, inl, inr, ◌&&◌, ℕ, zero, suc, ◌+◌, ◌-◌, ◌<◌, ◌≤◌, not, Bool, true, false, IsTrue, List, [], ◌∷◌, ◌++◌, Some, length, take, drop, get_or, slice_get, if◌then◌else◌, ◌==◌, refl, sym, ◌∙◌, ap, subst, arith, length-append, length-drop}
 use Rattle.std.proofs.lemmas.List.{length-take-le}
 use Rattle.std.specs.Prelude.{◌↔◌}
 use Rattle.std.proofs.lemmas.Bool.{cases_lt}
-use Rattle.std.proofs.lemmas.Option.{same_Some, none-some, slice_get_past}
+use Rattle.std.proofs.lemmas.Option.{same_Some, none-some}
 use Rattle.c65_code.specs.declared.parts.Part.{Part}
 use Rattle.c65_code.specs.declared.parts.RegSet.{RegSet}
 use Rattle.c65_mach.specs.declared.rows.Op.TheVariants as ops
-use Rattle.c65_mach.specs.declared.rows.Mode.TheVariants.{Indirect}
 use Rattle.c65_code.specs.declared.line.Line.{Line}
 use Rattle.c65_code.specs.declared.line.Line.TheVariants.{Label, Do, Call}
-use Rattle.c65_code.specs.Parts.{has_part, no_parts, union_of, minus_of}
+use Rattle.c65_code.specs.Parts.{has_part, no_parts, minus_of}
 use Rattle.c65_code.specs.Access.{line_reads, line_sets}
 use Rattle.c65_code.specs.Segments.{target_of, is_closing}
 use Rattle.c65_code.specs.Moves.{labelled}
 use Rattle.c65_live.specs.Live.{Next, onward, goes, left_parts, IsLive, left, read, kept}
-use Rattle.c65_live.specs.Renewals.{goes_nowhere, is_plain, are_plain, before_line, before_all, afters, before_rest, IsSettledBefore}
+use Rattle.c65_live.specs.Renewals.{goes_nowhere, is_plain, are_plain, before_line, before_all, afters, IsSettledBefore}
 use Rattle.c65_live.proofs.Sets.{in_none, in_union, in_minus, union_left, union_right, minus_in, yes_or_no}
 
 -- plain lines

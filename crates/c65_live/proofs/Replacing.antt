@@ -1,18 +1,18 @@
 -- The table that is made near the new lines is that of the lines with them.
-use Rattle.std.proofs.Common.{◌≡◌, ◌⊎◌, inl, inr, ℕ, zero, suc, ◌+◌, ◌-◌, ◌<◌, ◌≤◌, true, false, IsTrue, List, [], ◌∷◌, ◌++◌, Some, length, take, drop, get_or, slice_get, refl, sym, ◌∙◌, ap, subst, arith, append_assoc, length-append, length-drop}
+use Rattle.std.proofs.Common.{◌≡◌, inl, inr, ℕ, zero, suc, ◌+◌, ◌-◌, ◌<◌, ◌≤◌, false, IsTrue, List, [], ◌∷◌, ◌++◌, length, take, drop, get_or, slice_get, refl, sym, ◌∙◌, ap, subst, arith, append_assoc, length-append, length-drop}
 use Rattle.std.specs.Prelude.{◌↔◌}
 use Rattle.std.proofs.lemmas.Bool.{cases_lt}
-use Rattle.std.proofs.lemmas.List.{length-take-le, take-append-drop, take-take, drop-take, drop-drop, get_or-drop}
+use Rattle.std.proofs.lemmas.List.{length-take-le, take-append-drop, take-take, drop-take, drop-drop}
 use Rattle.std.proofs.lemmas.Option.{none-some, same_Some, slice_get_past}
 use Rattle.c65_code.specs.declared.parts.Part.{Part}
 use Rattle.c65_code.specs.declared.parts.RegSet.{RegSet}
 use Rattle.c65_code.specs.declared.line.Line.{Line}
-use Rattle.c65_code.specs.Parts.{has_part, no_parts, union_of, minus_of}
+use Rattle.c65_code.specs.Parts.{has_part, no_parts, minus_of}
 use Rattle.c65_code.specs.Access.{line_reads, line_sets}
 use Rattle.c65_code.specs.Segments.{replaced}
 use Rattle.c65_live.specs.Live.{onward, goes, IsLive, left, read, kept}
-use Rattle.c65_live.specs.Tables.{Table, IsLiveTable}
-use Rattle.c65_live.specs.Renewals.{before_line, before_rest, afters, widened, IsSettledBefore, IsEdge, renewed}
+use Rattle.c65_live.specs.Tables.{IsLiveTable}
+use Rattle.c65_live.specs.Renewals.{before_line, before_rest, afters, widened, IsSettledBefore, IsEdge, renewed, IsNear}
 use Rattle.c65_live.proofs.Sets.{in_none, in_union, in_minus, union_left, union_right, minus_in}
 use Rattle.c65_live.proofs.Renewed.{IsBefore, whole, table, is_exact, is_long}
 
@@ -163,3 +163,20 @@ replaced_by lines out live at count new near after first near_sets sets fits t a
     let made : near_sets ≡ afters out (widened lines first at new) after = sets_are ∙ ap (λ ls. afters out ls after) near_is in
     let whole_is : sets ≡ renewed out lines live at count new after first = all_is ∙ ap (λ s. take first live ++ (s ++ drop (at + count) live)) made in
     subst (λ s. IsLiveTable (replaced lines at count new) out (record { after = s })) (sym whole_is) (replaced_table lines out live at count new after first fits t after_is edge)
+
+afters_long : (out : RegSet) (lines : List Line) (after : RegSet) → length (afters out lines after) ≡ length lines
+afters_long out [] after = refl
+afters_long out (line ∷ lines) after = ap suc (afters_long out lines after)
+
+pub near_by : (lines : List Line) (out : RegSet) (live : List RegSet) (at count : ℕ) (new near : List Line) (after : RegSet) (first : ℕ) (sets : List RegSet) → at + count ≤ length lines
+    → IsLiveTable lines out (record { after = live }) → after ≡ before_rest out (drop (at + count) lines) (get_or (drop (at + count) live) 0 no_parts)
+    → IsEdge out lines at count new after first → near ≡ widened lines first at new → sets ≡ afters out near after → IsNear lines out live at count new first sets
+near_by lines out live at count new near after first sets fits t after_is edge near_is sets_are = record {
+  before = edge.before;
+  long =
+      let a : length sets ≡ length (widened lines first at new) = ap length sets_are ∙ (afters_long out near after ∙ ap length near_is) in
+      let b : length (widened lines first at new) ≡ length (take (at - first) (drop first lines)) + length new = length-append (take (at - first) (drop first lines)) new in
+      let d : length (take (at - first) (drop first lines)) ≡ at - first = length-take-le (at - first) (drop first lines) (omega (arith, length-drop first lines, fits, edge.before)) in
+      omega (arith, a, b, d);
+  table = replaced_by lines out live at count new near after first sets (take first live ++ (sets ++ drop (at + count) live)) fits t after_is edge near_is sets_are refl;
+}

@@ -1,13 +1,14 @@
 -- The table of lines in place of others: only near them it changes, where all ways through the place go straight.
-use Rattle.std.specs.Prelude.{◌≡◌, ◌&&◌, ◌<◌, ◌≤◌, ◌+◌, ◌-◌, ℕ, not, Bool, true, false, IsTrue, List, [], ◌∷◌, ◌++◌, Option, Some, None, length, take, drop, get_or, slice_get}
+use Rattle.std.specs.Prelude.{◌≡◌, ◌&&◌, ◌<◌, ◌≤◌, ◌+◌, ◌-◌, ℕ, not, Bool, true, false, IsTrue, List, [], ◌∷◌, ◌++◌, length, take, drop}
 use Rattle.std.specs.List.{list_all}
 use Rattle.c65_code.specs.declared.parts.Part.{Part}
 use Rattle.c65_code.specs.declared.parts.RegSet.{RegSet}
 use Rattle.c65_code.specs.declared.line.Line.{Line}
-use Rattle.c65_code.specs.declared.line.Line.TheVariants.{Label, Do, Call}
+use Rattle.c65_code.specs.declared.line.Line.TheVariants.{Label}
 use Rattle.c65_code.specs.Parts.{no_parts, has_part, union_of, minus_of}
 use Rattle.c65_code.specs.Access.{line_reads, line_sets}
-use Rattle.c65_code.specs.Segments.{target_of, is_closing}
+use Rattle.c65_code.specs.Segments.{target_of, is_closing, replaced}
+use Rattle.c65_live.specs.Tables.{IsLiveTable}
 use Rattle.c65_live.specs.declared.renew.Sides.{Sides}
 
 abbrev pub goes_nowhere : List ℕ → Bool
@@ -66,3 +67,9 @@ pub record IsEdge (out : RegSet) (lines : List Line) (at count : ℕ) (new : Lis
 -- the table with other sets from a line on up to the end of the new lines
 abbrev pub renewed : RegSet → List Line → List RegSet → ℕ → ℕ → List Line → RegSet → ℕ → List RegSet
 renewed out lines live at count new after first = take first live ++ (afters out (widened lines first at new) after ++ drop (at + count) live)
+
+-- these sets, from this line on up to the end of the new lines, make the table that of the lines with the new ones
+pub record IsNear (lines : List Line) (out : RegSet) (live : List RegSet) (at count : ℕ) (new : List Line) (first : ℕ) (sets : List RegSet) : Type 0 where
+  pub before : first ≤ at
+  pub long : length sets ≡ at - first + length new
+  pub table : IsLiveTable (replaced lines at count new) out (record { after = take first live ++ (sets ++ drop (at + count) live) })

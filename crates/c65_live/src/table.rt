@@ -1,8 +1,9 @@
 // The table of what is live after each line of a segment.
-ghost use Rattle.std.specs.Prelude.{◌≡◌, ◌+◌, ◌≤◌, [], ◌++◌, length, slice_get, IfOk, IfErr, OnOk, OnErr};
+ghost use Rattle.std.specs.Prelude.{◌≡◌, ◌+◌, ◌≤◌, [], ◌++◌, length, take, drop, slice_get, IfOk, IfErr, IfSome, OnOk, OnErr};
 ghost use Rattle.c65_base.specs.declared.refusal.Refusal.TheVariants.{OutOfMemory};
 ghost use Rattle.c65_code.specs.Segments.{IsSegment, replaced};
 ghost use Rattle.c65_live.specs.Tables.{Table, IsLiveTable, is_dead};
+ghost use Rattle.c65_live.specs.Renewals.{IsNear};
 ghost use Rattle.c65_live.specs.Sweeps.{IsSettled};
 
 use crate::flow::{Flow, flows};
@@ -80,10 +81,59 @@ impl LiveTable {
         ensures err { OnErr result (self.new ≡ self.old) }
         ensures refused { IfErr result (λ refusal. refusal ≡ OutOfMemory) }
     {
+        if lines.len() <= count {
+            let near = near(self.alloc, seg, &self.live, at, count, lines)?;
+            if let Some(near) = near {
+                let wide = at + count - near.first;
+                overwrite(&mut self.live, near.first, wide, &near.sets);
+                return Ok(());
+            }
+        }
         let live = replaced(self.alloc, seg, &self.live, at, count, lines)?;
         self.live = live;
         Ok(())
     }
+}
+
+// The sets after the lines from one on up to the end of new ones.
+#[derive(Drop)]
+struct Renewal {
+    first: usize,
+    sets: Vec<RegSet>,
+}
+
+// The sets that change where new lines stand in place of some. None where that is not seen.
+fn near(
+    alloc: Global,
+    seg: &Seg,
+    live: &[RegSet],
+    at: usize,
+    count: usize,
+    new: &[Line],
+) -> Result<Option<Renewal>, AllocError>
+    requires place { at + count ≤ length seg.now.lines }
+    requires table { IsLiveTable seg.now.lines seg.now.out (record { after = live.now }) }
+    ensures { IfOk result (λ found. IfSome found (λ near. IsNear seg.now.lines seg.now.out live.now at count new.now near.first near.sets.items)) }
+{
+    let (out, lines, rest) = (seg.out(), seg.lines(), at + count);
+    let after = before_rest(out, &lines[rest..], &live[rest..]);
+    let Some(first) = edge(out, lines, at, count, new, after) else {
+        return Ok(None);
+    };
+    let widened = joined(alloc, &lines[first..at], new, &[])?;
+    let sets = afters(alloc, out, &widened, after)?;
+    Ok(Some(Renewal { first, sets }))
+}
+
+// Sets in place of no fewer others.
+fn overwrite(live: &mut Vec<RegSet>, at: usize, count: usize, new: &[RegSet])
+    requires place { at + count ≤ length live.old.items }
+    requires fewer { length new.now ≤ count }
+    ensures { live.new.items ≡ take at live.old.items ++ (new.now ++ drop (at + count) live.old.items) }
+{
+    let end = at + new.len();
+    live[at..end].copy_from_slice(new);
+    live.drain(end..at + count);
 }
 
 // The sets after the segment's lines with others in place of some.
@@ -100,15 +150,16 @@ fn replaced(
     requires table { IsLiveTable seg.now.lines seg.now.out (record { after = live.now }) }
     ensures { IfOk result (λ sets. IsLiveTable (replaced seg.now.lines at count new.now) seg.now.out (record { after = sets.items })) }
 {
-    let (out, lines, rest) = (seg.out(), seg.lines(), at + count);
-    let after = before_rest(out, &lines[rest..], &live[rest..]);
-    let Some(first) = edge(out, lines, at, count, new, after) else {
-        let all = joined(alloc, &lines[..at], new, &lines[rest..])?;
-        return made(alloc, out, &all);
-    };
-    let near = joined(alloc, &lines[first..at], new, &[])?;
-    let sets = afters(alloc, out, &near, after)?;
-    joined(alloc, &live[..first], &sets, &live[rest..])
+    let rest = at + count;
+    let near = near(alloc, seg, live, at, count, new)?;
+    match near {
+        Some(near) => joined(alloc, &live[..near.first], &near.sets, &live[rest..]),
+        None => {
+            let lines = seg.lines();
+            let all = joined(alloc, &lines[..at], new, &lines[rest..])?;
+            made(alloc, seg.out(), &all)
+        }
+    }
 }
 
 fn joined<T: Copy>(

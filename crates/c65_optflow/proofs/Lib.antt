@@ -3,3 +3,4 @@ pub mod Chains
 pub mod Rules
 pub mod Unused
 pub mod Good
+pub mod Dropped

@@ -2,12 +2,16 @@
 ghost use Rattle.std.specs.Prelude.{⊤};
 ghost use Rattle.c65_pass.specs.Rounds.{Only, IsRuleOf, IsPassed};
 
+use crate::drop::drop_unused_labels;
 use crate::find::find;
 use c65_base::{Options, Refusal};
 use c65_know::Noted;
 use c65_live::LiveTable;
 use c65_pass::{Rules, run_flow_rule, run_rules};
 use std::alloc::Global;
+
+// The rule on labels to which no line refers.
+const UNUSED_LABELS: u8 = 7;
 
 // The rules by their numbers.
 #[derive(Drop)]
@@ -23,6 +27,9 @@ impl Rules for FlowRules {
     ghost ready = { λ rules code. ⊤ };
 
     fn run(&mut self, alloc: Global, code: &mut Noted, turn: u8) -> Result<usize, Refusal> {
+        if turn == UNUSED_LABELS {
+            return drop_unused_labels(alloc, code);
+        }
         let find = |n: &Noted, l: &LiveTable, at: usize| find(alloc, n, l, at, turn);
         run_flow_rule(alloc, code, turn, find)
     }

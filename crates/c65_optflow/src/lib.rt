@@ -2,10 +2,12 @@
 #![tactic(auto)]
 
 mod branches;
+mod drop;
 mod find;
 mod flow;
 mod samples;
 
+pub use drop::drop_unused_labels;
 pub use flow::optimise_flow;
 pub use samples::worked_rules;
 

@@ -1,9 +1,9 @@
-use Rattle.std.proofs.Common.{rules, ◌≡◌, ◌-◌, ◌∷◌, List, true, take, drop, get_or, refl, ap, sym, ◌∙◌, subst, arith}
+use Rattle.std.proofs.Common.{◌≡◌, ◌-◌, List, true, take, drop, get_or, ap, sym, ◌∙◌, subst, arith}
 use Rattle.c65_code.specs.declared.line.Line.{Line}
 use Rattle.c65_code.specs.declared.line.Line.TheVariants.{Label}
 use Rattle.c65_code.specs.Parts.{no_parts}
 use Rattle.c65_live.specs.Renewals.{are_plain, before_line, before_all, widened}
-use Rattle.c65_live.proofs.Edges.{widened_more, widened_none, plain_with, settled_before}
+use Rattle.c65_live.proofs.Edges.{widened_more, plain_with}
 use Rattle.c65_live.proofs.renew.edge.Goals as goal
 
 pub loop-first-preserved : goal.loop-first-preserved

@@ -1,4 +1,4 @@
-use Rattle.std.proofs.Common.{◌≡◌, ◌≤◌, ◌+◌, true, take, drop, length}
+use Rattle.std.proofs.Common.{◌≡◌, ◌≤◌, true, take, drop}
 use Rattle.c65_code.specs.Parts.{no_parts}
 use Rattle.c65_live.specs.Renewals.{are_plain, before_all, widened}
 use Rattle.c65_live.proofs.renew.edge.Given as goal
