@@ -31,7 +31,11 @@ following_until_end_composes first second more rest a b c main h k = record {
       (h.turns test grows before w t empty none runs));
 }
 
-module _ (s : Setting) (f main : ℕ) where
+-- every code
+abbrev pub Any : Setting → Type 0
+Any s = Unit {0}
+
+module _ (f main : ℕ) where
   one_map : (first second : ℕ → ℕ) → (λ g p. mapped_in f second g (mapped_in f first g p)) ≡ mapped_in f (λ p. second (first p))
   one_map first second = fun_ext (λ g. fun_ext (λ p. pick p (g == f)))
     where
@@ -39,12 +43,12 @@ module _ (s : Setting) (f main : ℕ) where
       pick p true = refl
       pick p false = refl
 
-  both_followed : (old next new : List Line) → IsFollowedUntilEnd s f main old next → IsFollowedUntilEnd s f main next new → IsFollowedUntilEnd s f main old new
+  both_followed : (old next new : List Line) → IsFollowedUntilEnd Any f main old next → IsFollowedUntilEnd Any f main next new → IsFollowedUntilEnd Any f main old new
   both_followed old next new h k = record {
     map = λ p. k.map (h.map p);
     more = h.more + k.more;
-    follows = subst (λ (m : ℕ → ℕ → ℕ). FollowsUntilEnd m (h.more + k.more) (with_lines s f old) (with_lines s f new) main) (one_map h.map k.map)
-        (following_until_end_composes (mapped_in f h.map) (mapped_in f k.map) h.more k.more (with_lines s f old) (with_lines s f next) (with_lines s f new) main h.follows k.follows);
+    follows = λ s any. subst (λ (m : ℕ → ℕ → ℕ). FollowsUntilEnd m (h.more + k.more) (with_lines s f old) (with_lines s f new) main) (one_map h.map k.map)
+        (following_until_end_composes (mapped_in f h.map) (mapped_in f k.map) h.more k.more (with_lines s f old) (with_lines s f next) (with_lines s f new) main (h.follows s any) (k.follows s any));
   }
 
   no_map : (λ (g p : ℕ). p) ≡ mapped_in f (λ p. p)
@@ -54,11 +58,11 @@ module _ (s : Setting) (f main : ℕ) where
       pick p true = refl
       pick p false = refl
 
-  itself_followed : (lines : List Line) → IsFollowedUntilEnd s f main lines lines
+  itself_followed : (lines : List Line) → IsFollowedUntilEnd Any f main lines lines
   itself_followed lines = record {
     map = λ p. p;
     more = 0;
-    follows = subst (λ (m : ℕ → ℕ → ℕ). FollowsUntilEnd m 0 (with_lines s f lines) (with_lines s f lines) main) no_map (record {
+    follows = λ s any. subst (λ (m : ℕ → ℕ → ℕ). FollowsUntilEnd m 0 (with_lines s f lines) (with_lines s f lines) main) no_map (record {
       by = λ test w t empty none c. c;
       turns = λ test grows before w t empty none c. weaken (with_lines s f lines) (Shows test) (w + 0) (omega arith) c;
     });
@@ -122,12 +126,12 @@ pub record IsAimed (line : Line) (l : ℕ) : Type 0 where
   pub same : retargeted line l ≡ line
   pub back : (k : ℕ) → jump_target line ≡ Some k → k ≡ l
 
-module _ (s : Setting) (f main : ℕ) (front after : List Line) (line : Line) (l : ℕ) (aimed : IsAimed line l) where
+module _ (f main : ℕ) (front after : List Line) (line : Line) (l : ℕ) (aimed : IsAimed line l) where
   abbrev pub sent : ℕ → List Line
   sent k = front ++ (retargeted line k ∷ after)
 
-  abbrev lines_with : ℕ → ℕ → List Line
-  lines_with k g = if g == f then front ++ (retargeted line k ∷ after) else s.lines g
+  abbrev lines_with : Setting → ℕ → ℕ → List Line
+  lines_with s k g = if g == f then front ++ (retargeted line k ∷ after) else s.lines g
 
   swap_settle : (j k p : ℕ) → settle (sent j) p ≡ settle (sent k) p
   swap_settle j k p = settle_swapped after (retargeted line j) (retargeted line k) (aimed.instruction j) (aimed.instruction k) front p
@@ -138,27 +142,27 @@ module _ (s : Setting) (f main : ℕ) (front after : List Line) (line : Line) (l
   same_place : (j k n : ℕ) → settle (sent j) (labelled (sent j) n) ≡ settle (sent k) (labelled (sent k) n)
   same_place j k n = swap_settle j k (labelled (sent j) n) ∙ ap (settle (sent k)) (swap_label j k n)
 
-  in_f : (k : ℕ) → lines_with k f ≡ sent k
-  in_f k = let yes : (f == f) ≡ true = eq-eqb f f refl in ap (λ (b : Bool). if b then sent k else s.lines f) yes
+  in_f : (s : Setting) (k : ℕ) → lines_with s k f ≡ sent k
+  in_f s k = let yes : (f == f) ≡ true = eq-eqb f f refl in ap (λ (b : Bool). if b then sent k else s.lines f) yes
 
   module _ (j k : ℕ) (r : IsHopAt (sent l) (settle (sent l) (labelled (sent l) j)) k) (away : settle (sent l) (labelled (sent l) j) ≡ length front → ⊥) where
     in_old : slice_get (sent j) (settle (sent j) (labelled (sent j) j)) ≡ Some r.line
     in_old = ap (slice_get (sent j)) (same_place j l j) ∙ (get_swapped front after (retargeted line j) (retargeted line l) (settle (sent l) (labelled (sent l) j)) away ∙ r.at)
 
-    one_hop : IsSentOn (lines_with j) (lines_with k) f (length front) (settle (lines_with j f) (labelled (lines_with j f) j)) (settle (lines_with j f) (labelled (lines_with j f) k)) (retargeted line j) (retargeted line k) r.line j k
-    one_hop = record {
+    one_hop : (s : Setting) → IsSentOn (lines_with s j) (lines_with s k) f (length front) (settle (lines_with s j f) (labelled (lines_with s j f) j)) (settle (lines_with s j f) (labelled (lines_with s j f) k)) (retargeted line j) (retargeted line k) r.line j k
+    one_hop s = record {
       settles = λ g p. settled g p (g == f);
       labels = λ g n. labelled_as g n (g == f);
       there = λ g h. there g (g == f) h;
       others = λ g q x ne h. others g q x (g == f) refl ne h;
-      old_at = subst (λ (x : List Line). slice_get x (length front) ≡ Some (retargeted line j)) (sym (in_f j)) (get_there front after (retargeted line j));
-      new_at = subst (λ (x : List Line). slice_get x (length front) ≡ Some (retargeted line k)) (sym (in_f k)) (get_there front after (retargeted line k));
+      old_at = subst (λ (x : List Line). slice_get x (length front) ≡ Some (retargeted line j)) (sym (in_f s j)) (get_there front after (retargeted line j));
+      new_at = subst (λ (x : List Line). slice_get x (length front) ≡ Some (retargeted line k)) (sym (in_f s k)) (get_there front after (retargeted line k));
       aims = aimed.aims j k;
-      hop_at = subst (λ (x : List Line). slice_get x (settle x (labelled x j)) ≡ Some r.line) (sym (in_f j)) in_old;
+      hop_at = subst (λ (x : List Line). slice_get x (settle x (labelled x j)) ≡ Some r.line) (sym (in_f s j)) in_old;
       hop_is = jump_form r.line k r.target;
       first_is = refl;
       last_is = refl;
-      apart = λ e. away (sym (same_place j l j) ∙ (sym (ap (λ (x : List Line). settle x (labelled x j)) (in_f j)) ∙ e));
+      apart = λ e. away (sym (same_place j l j) ∙ (sym (ap (λ (x : List Line). settle x (labelled x j)) (in_f s j)) ∙ e));
     }
       where
         settled : (g p : ℕ) (b : Bool) → settle (if b then sent j else s.lines g) p ≡ settle (if b then sent k else s.lines g) p
@@ -177,11 +181,12 @@ module _ (s : Setting) (f main : ℕ) (front after : List Line) (line : Line) (l
         others g q x true e ne h = sym (get_swapped front after (retargeted line j) (retargeted line k) q (λ i. ne (eqb-true g f e, i))) ∙ h
         others g q x false e ne h = h
 
-    sent_on : IsFollowedUntilEnd s f main (sent j) (sent k)
+    sent_on : IsFollowedUntilEnd Any f main (sent j) (sent k)
     sent_on = record {
-      map = λ q. if q == settle (lines_with j f) (labelled (lines_with j f) j) then settle (lines_with j f) (labelled (lines_with j f) k) else q;
+      map = λ q. if q == settle (sent j) (labelled (sent j) j) then settle (sent j) (labelled (sent j) k) else q;
       more = 1;
-      follows = hop_follows s (lines_with j) (lines_with k) f (length front) (settle (lines_with j f) (labelled (lines_with j f) j)) (settle (lines_with j f) (labelled (lines_with j f) k)) (retargeted line j) (retargeted line k) r.line j k one_hop main;
+      follows = λ s any. subst (λ (x : List Line). FollowsUntilEnd (mapped_in f (λ q. if q == settle x (labelled x j) then settle x (labelled x k) else q)) 1 (with_lines s f (sent j)) (with_lines s f (sent k)) main) (in_f s j)
+          (hop_follows s (lines_with s j) (lines_with s k) f (length front) (settle (lines_with s j f) (labelled (lines_with s j f) j)) (settle (lines_with s j f) (labelled (lines_with s j f) k)) (retargeted line j) (retargeted line k) r.line j k (one_hop s) main);
     }
 
   -- the chain does not come back to the line
@@ -195,10 +200,10 @@ module _ (s : Setting) (f main : ℕ) (front after : List Line) (line : Line) (l
       same_line : (x y : Line) → Some x ≡ Some y → x ≡ y
       same_line x y e = cc
 
-  walk : (total d : ℕ) → Chain (sent l) total l d → (n k e : ℕ) → n ≤ total → Chain (sent l) n k e → IsFollowedUntilEnd s f main (sent k) (sent e)
-  walk total d whole n k e le (ends h) = itself_followed s f main (sent k)
+  walk : (total d : ℕ) → Chain (sent l) total l d → (n k e : ℕ) → n ≤ total → Chain (sent l) n k e → IsFollowedUntilEnd Any f main (sent k) (sent e)
+  walk total d whole n k e le (ends h) = itself_followed f main (sent k)
   walk total d whole n k e le (goes {n = m} {j = j} h rest) =
-      both_followed s f main (sent k) (sent j) (sent e) (sent_on k j (hop_at (sent l) k j h) (never_back m total k j d e (omega (arith, le)) whole h rest)) (walk total d whole m j e (omega (arith, le)) rest)
+      both_followed f main (sent k) (sent j) (sent e) (sent_on k j (hop_at (sent l) k j h) (never_back m total k j d e (omega (arith, le)) whole h rest)) (walk total d whole m j e (omega (arith, le)) rest)
 
-  pub chain_is_followed : (n e : ℕ) → Chain (sent l) n l e → IsFollowedUntilEnd s f main (sent l) (sent e)
+  pub chain_is_followed : (n e : ℕ) → Chain (sent l) n l e → IsFollowedUntilEnd Any f main (sent l) (sent e)
   chain_is_followed n e chain = walk n e chain n l e (omega arith) chain

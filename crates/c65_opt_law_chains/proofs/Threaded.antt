@@ -10,17 +10,19 @@ use Rattle.c65_mach.specs.declared.rows.Mode.TheVariants.{Absolute, Relative}
 use Rattle.c65_code.specs.declared.line.Line.{Line}
 use Rattle.c65_code.specs.declared.line.Line.TheVariants.{Do}
 use Rattle.c65_code.specs.declared.line.Operand.TheVariants.{To}
+use Rattle.c65_code.specs.declared.parts.RegSet.{RegSet}
 use Rattle.c65_code.specs.Forms.{Branch, form_of}
-use Rattle.c65_code.specs.Placement.{Setting}
+use Rattle.c65_code.specs.Rewriting.{with_lines}
 use Rattle.c65_code.specs.Segments.{is_fit}
 use Rattle.c65_know.specs.Known.{annotated}
 use Rattle.c65_pass.specs.FlowRules.{threaded, sent_to}
 use Rattle.c65_pass.specs.Labels.{jump_target, branch_target, retargeted}
 use Rattle.c65_pass.specs.Rewriting.{Rewriting, rewritten}
 use Rattle.c65_pass.specs.Rules.{match_there}
+use Rattle.c65_opt_law_follow.specs.Laws.{IsApt}
 use Rattle.c65_opt_law_chains.specs.Laws.{IsFollowedUntilEnd, RuleIsFollowedUntilEnd}
 use Rattle.c65_opt_law_chains.proofs.Hop.{jumping, branching}
-use Rattle.c65_opt_law_chains.proofs.Chains.{Chain, threads, IsAimed, chain_is_followed}
+use Rattle.c65_opt_law_chains.proofs.Chains.{Any, Chain, threads, IsAimed, chain_is_followed}
 
 -- ---- jumps and branches to a label
 
@@ -63,8 +65,8 @@ fit_there [] (suc at) line post h e = absurd cc
 fit_there (x ∷ lines) zero line post h e = let is : x ≡ line = cc in subst (λ (y : Line). is_fit y ≡ true) is (and_parts (is_fit x) (list_all is_fit lines) h).0
 fit_there (x ∷ lines) (suc at) line post h e = fit_there lines at line post (and_parts (is_fit x) (list_all is_fit lines) h).1 e
 
-module _ (s : Setting) (f main : ℕ) (lines : List Line) (at : ℕ) (w : Rewriting) where
-  goes_on : (line : Line) (post : List Line) (target : Option ℕ) → drop at lines ≡ line ∷ post → sent_to (threaded lines target) at line ≡ Some w → ((l : ℕ) → target ≡ Some l → IsAimed line l) → IsFollowedUntilEnd s f main lines (rewritten lines w)
+module _ (f main : ℕ) (out : RegSet) (lines : List Line) (at : ℕ) (w : Rewriting) where
+  goes_on : (line : Line) (post : List Line) (target : Option ℕ) → drop at lines ≡ line ∷ post → sent_to (threaded lines target) at line ≡ Some w → ((l : ℕ) → target ≡ Some l → IsAimed line l) → IsFollowedUntilEnd (λ s. IsApt f out (with_lines s f lines)) f main lines (rewritten lines w)
   goes_on line post target e k aim =
       let made = sent_is (threaded lines target) at line w k in
       let thread = threads lines target made.0 made.1 in
@@ -73,19 +75,20 @@ module _ (s : Setting) (f main : ℕ) (lines : List Line) (at : ℕ) (w : Rewrit
       let old : take at lines ++ (retargeted line thread.label ∷ post) ≡ lines = ap (λ (x : Line). take at lines ++ (x ∷ post)) aimed.same ∙ parts in
       let rest : drop (at + 1) lines ≡ post = sym (drop-drop 1 at lines) ∙ ap (drop 1) e in
       let new : take at lines ++ (retargeted line made.0 ∷ post) ≡ rewritten lines w = ap (λ (x : List Line). take at lines ++ (retargeted line made.0 ∷ x)) (sym rest) ∙ ap (rewritten lines) made.2 in
-      let done = chain_is_followed s f main (take at lines) post line thread.label aimed thread.count made.0 (subst (λ (x : List Line). Chain x thread.count thread.label made.0) (sym old) thread.chain) in
-      subst (IsFollowedUntilEnd s f main lines) new (subst (λ (x : List Line). IsFollowedUntilEnd s f main x (take at lines ++ (retargeted line made.0 ∷ post))) old done)
+      let done = chain_is_followed f main (take at lines) post line thread.label aimed thread.count made.0 (subst (λ (x : List Line). Chain x thread.count thread.label made.0) (sym old) thread.chain) in
+      let here = subst (IsFollowedUntilEnd Any f main lines) new (subst (λ (x : List Line). IsFollowedUntilEnd Any f main x (take at lines ++ (retargeted line made.0 ∷ post))) old done) in
+      record { map = here.map; more = here.more; follows = λ s apt. here.follows s tt }
 
 pub long_jump_followed : RuleIsFollowedUntilEnd 4
-long_jump_followed s f main out literals lines table at w segment apt is m sound some = go (drop at lines) refl m
+long_jump_followed f main out literals lines table at w segment is m sound some = go (drop at lines) refl m
   where
-    go : (rest : List Line) → drop at lines ≡ rest → match_there 4 literals (annotated lines out) table at rest ≡ Some w → IsFollowedUntilEnd s f main lines (rewritten lines w)
+    go : (rest : List Line) → drop at lines ≡ rest → match_there 4 literals (annotated lines out) table at rest ≡ Some w → IsFollowedUntilEnd (λ s. IsApt f out (with_lines s f lines)) f main lines (rewritten lines w)
     go [] e k = absurd cc
-    go (line ∷ post) e k = goes_on s f main lines at w line post (jump_target line) e k (jump_aimed line)
+    go (line ∷ post) e k = goes_on f main out lines at w line post (jump_target line) e k (jump_aimed line)
 
 pub long_branch_followed : RuleIsFollowedUntilEnd 5
-long_branch_followed s f main out literals lines table at w segment apt is m sound some = go (drop at lines) refl m
+long_branch_followed f main out literals lines table at w segment is m sound some = go (drop at lines) refl m
   where
-    go : (rest : List Line) → drop at lines ≡ rest → match_there 5 literals (annotated lines out) table at rest ≡ Some w → IsFollowedUntilEnd s f main lines (rewritten lines w)
+    go : (rest : List Line) → drop at lines ≡ rest → match_there 5 literals (annotated lines out) table at rest ≡ Some w → IsFollowedUntilEnd (λ s. IsApt f out (with_lines s f lines)) f main lines (rewritten lines w)
     go [] e k = absurd cc
-    go (line ∷ post) e k = goes_on s f main lines at w line post (branch_target line) e k (λ l h. branch_aimed line l (fit_there lines at line post segment.fit e) h)
+    go (line ∷ post) e k = goes_on f main out lines at w line post (branch_target line) e k (λ l h. branch_aimed line l (fit_there lines at line post segment.fit e) h)

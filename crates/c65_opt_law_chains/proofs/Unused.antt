@@ -135,26 +135,27 @@ gone_is : (b : Bool) (at : ℕ) (w : Rewriting) → gone_if b at ≡ Some w → 
 gone_is false at w m = absurd cc
 gone_is true at w m = (refl, cc)
 
-module _ (follow : UnreachedFollow) (s : Setting) (f main : ℕ) (out : RegSet) (lines : List Line) (at : ℕ) (w : Rewriting) (apt : IsApt f out (with_lines s f lines)) (some : 1 ≤ length (rewritten lines w)) where
-  gone : (line : Line) (post : List Line) → drop at lines ≡ line ∷ post → unused_label lines at line ≡ Some w → IsFollowedBy s f main lines (rewritten lines w)
+module _ (follow : UnreachedFollow) (f main : ℕ) (out : RegSet) (lines : List Line) (at : ℕ) (w : Rewriting) (some : 1 ≤ length (rewritten lines w)) where
+  gone : (line : Line) (post : List Line) → drop at lines ≡ line ∷ post → unused_label lines at line ≡ Some w → IsFollowedBy f main out lines (rewritten lines w)
   gone (Label l) post e k =
       let made = gone_is (not (is_among (targets_of lines) l)) at w k in
       let parts : take at lines ++ (Label l ∷ post) ≡ lines = ap (λ (x : List Line). take at lines ++ x) (sym e) ∙ take-append-drop at lines in
       let rest : drop (at + 1) lines ≡ post = sym (drop-drop 1 at lines) ∙ ap (drop 1) e in
       let new : take at lines ++ post ≡ rewritten lines w = ap (λ (x : List Line). take at lines ++ x) (sym rest) ∙ ap (rewritten lines) made.1 in
-      let done = label_goes s f main out (take at lines) post l (subst (λ (x : List Line). IsApt f out (with_lines s f x)) (sym parts) apt) (subst (λ (x : List Line). 1 ≤ length x) (sym new) some)
-      (subst (λ (x : List Line). (q : ℕ) (y : Line) (k : ℕ) → slice_get x q ≡ Some y → target_of y ≡ k ∷ [] → k ≡ l → ⊥) (sym parts) (λ q y k. unused_apart lines l q k y made.0)) follow in
       record {
         map = moved (take at lines) post l;
         more = 0;
-        follows = subst (λ (x : List Line). Follows (mapped_in f (moved (take at lines) post l)) 0 (with_lines s f lines) (with_lines s f x) main) new
+        follows = λ s apt.
+            let done = label_goes s f main out (take at lines) post l (subst (λ (x : List Line). IsApt f out (with_lines s f x)) (sym parts) apt) (subst (λ (x : List Line). 1 ≤ length x) (sym new) some)
+            (subst (λ (x : List Line). (q : ℕ) (y : Line) (k : ℕ) → slice_get x q ≡ Some y → target_of y ≡ k ∷ [] → k ≡ l → ⊥) (sym parts) (λ q y k. unused_apart lines l q k y made.0)) follow in
+            subst (λ (x : List Line). Follows (mapped_in f (moved (take at lines) post l)) 0 (with_lines s f lines) (with_lines s f x) main) new
             (subst (λ (x : List Line). Follows (mapped_in f (moved (take at lines) post l)) 0 (with_lines s f x) (with_lines s f (take at lines ++ post)) main) parts done);
       }
   gone _ post e k = absurd cc
 
 pub unused_followed : UnreachedFollow → RuleIsFollowed 7
-unused_followed follow s f main out literals lines table at w segment apt is m sound some = go (drop at lines) refl m
+unused_followed follow f main out literals lines table at w segment is m sound some = go (drop at lines) refl m
   where
-    go : (rest : List Line) → drop at lines ≡ rest → match_there 7 literals (annotated lines out) table at rest ≡ Some w → IsFollowedBy s f main lines (rewritten lines w)
+    go : (rest : List Line) → drop at lines ≡ rest → match_there 7 literals (annotated lines out) table at rest ≡ Some w → IsFollowedBy f main out lines (rewritten lines w)
     go [] e k = absurd cc
-    go (line ∷ post) e k = gone follow s f main out lines at w apt some line post e k
+    go (line ∷ post) e k = gone follow f main out lines at w some line post e k

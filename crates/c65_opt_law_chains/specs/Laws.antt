@@ -32,18 +32,18 @@ pub record FollowsUntilEndEverywhere (old new : Code) (main : ℕ) : Type 0 wher
   pub more : ℕ
   pub at : (place : Placement) → IsPlacement old place → FollowsUntilEnd map more (setting_of old place) (setting_of new place) main
 
--- one map of places serves in the new code, and one weight more
-pub record IsFollowedUntilEnd (s : Setting) (f main : ℕ) (old new : List Line) : Type 0 where
+-- one map of places and one weight more serve in all codes of a kind
+pub record IsFollowedUntilEnd (kind : Setting → Type 0) (f main : ℕ) (old new : List Line) : Type 0 where
   pub map : ℕ → ℕ
   pub more : ℕ
-  pub follows : FollowsUntilEnd (mapped_in f map) more (with_lines s f old) (with_lines s f new) main
+  pub follows : (s : Setting) → kind s → FollowsUntilEnd (mapped_in f map) more (with_lines s f old) (with_lines s f new) main
 
--- Where the rule matches in lines of a function, with their notes and their live table, a code with what it makes of them follows
+-- Where the rule matches in lines of a function, with their notes and their live table, each code with what it makes of them follows
 -- the code with these lines, with the arrivals before the end.
 abbrev pub RuleIsFollowedUntilEnd : ℕ → Type 0
-RuleIsFollowedUntilEnd rule = (s : Setting) (f main : ℕ) (out : RegSet) (literals : List (Sym × List ℕ)) (lines : List Line) (table : Table) (at : ℕ) (w : Rewriting)
-    → IsSegment lines → IsApt f out (with_lines s f lines) → IsLiveTable lines out table → match_at rule literals (annotated lines out) table at ≡ Some w
-    → IsSound (rewritten lines w) → 1 ≤ length (rewritten lines w) → IsFollowedUntilEnd s f main lines (rewritten lines w)
+RuleIsFollowedUntilEnd rule = (f main : ℕ) (out : RegSet) (literals : List (Sym × List ℕ)) (lines : List Line) (table : Table) (at : ℕ) (w : Rewriting)
+    → IsSegment lines → IsLiveTable lines out table → match_at rule literals (annotated lines out) table at ≡ Some w
+    → IsSound (rewritten lines w) → 1 ≤ length (rewritten lines w) → IsFollowedUntilEnd (λ s. IsApt f out (with_lines s f lines)) f main lines (rewritten lines w)
 
 -- What follows another code does so until the end.
 abbrev pub FollowingHolds : Type 0

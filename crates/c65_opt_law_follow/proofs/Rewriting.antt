@@ -333,32 +333,37 @@ module _ (s : Setting) (f main : ℕ) (out : RegSet) (front old new behind : Lis
       to_is : exit_place (front ++ (old ++ behind)) (length front + length old) ≡ exit_place (A f) (length front + length old)
       to_is = ap (λ (x : List Line). exit_place x (length front + length old)) (sym at_f.a_is)
 
--- The theorem: in any code, a function with the new lines in the place of the old ones follows it.
-pub justified_follow : (s : Setting) (f main : ℕ) (out : RegSet) (front old new behind : List Line) (live : ℕ → RegSet) (known : ℕ → State → Type 0)
-    → IsApt f out (with_lines s f (whole front old behind)) → IsSound new → 1 ≤ length old → 1 ≤ length (whole front new behind) → AreInner old → AreInner new
-    → IsClosed (whole front old behind) out live → IsHandedOn s.place (whole front old behind) known
+-- The theorem: in any code, a function with the new lines in the place of the old ones follows it. The map of places is the same in
+-- all codes.
+pub justified_follow : (f main : ℕ) (out : RegSet) (front old new behind : List Line) (live : ℕ → RegSet) (known : ℕ → State → Type 0)
+    → IsSound new → 1 ≤ length old → 1 ≤ length (whole front new behind) → AreInner old → AreInner new
+    → IsClosed (whole front old behind) out live
+    → (map : ℕ → ℕ) × ((s : Setting) → IsApt f out (with_lines s f (whole front old behind)) → IsHandedOn s.place (whole front old behind) known
     → Justified (with_lines s f (whole front old behind)) (exit_place (whole front old behind) (length front + length old)) (λ e. before_place out (whole front old behind) live (exit_place (whole front old behind) (length front + length old) e)) (known (length front)) old new
-    → (map : ℕ → ℕ) × Follows (mapped_in f map) 0 (with_lines s f (whole front old behind)) (with_lines s f (whole front new behind)) main
-justified_follow s f main out front old new behind live known apt sound some some_new inner new_inner closed handed j =
+    → Follows (mapped_in f map) 0 (with_lines s f (whole front old behind)) (with_lines s f (whole front new behind)) main)
+justified_follow f main out front old new behind live known sound some some_new inner new_inner closed =
     let plain = inner_instructions old inner in
-    let new_plain = inner_instructions new new_inner in
-    let from = outside s f main out front old new behind live known apt some some_new plain new_plain closed handed in
-    let at = inside s f main out front old new behind live known apt some some_new plain new_plain closed handed inner new_inner sound j in (
+    let new_plain = inner_instructions new new_inner in (
       moved_place front old new behind some plain new_plain,
-      follows s (A s f main out front old new behind live known apt some some_new plain new_plain closed handed) (B s f main out front old new behind live known apt some some_new plain new_plain closed handed) f (length front) main old
+      λ s apt handed j.
+          let from = outside s f main out front old new behind live known apt some some_new plain new_plain closed handed in
+          let at = inside s f main out front old new behind live known apt some some_new plain new_plain closed handed inner new_inner sound j in
+          follows s (A s f main out front old new behind live known apt some some_new plain new_plain closed handed) (B s f main out front old new behind live known apt some some_new plain new_plain closed handed) f (length front) main old
           (m s f main out front old new behind live known apt some some_new plain new_plain closed handed) (lives s f main out front old new behind live known apt some some_new plain new_plain closed handed) known from
           (λ test grows n w lt again t t2 sa sb shut r run c. at_window s (A s f main out front old new behind live known apt some some_new plain new_plain closed handed) (B s f main out front old new behind live known apt some some_new plain new_plain closed handed) f (length front) old new
           (m s f main out front old new behind live known apt some some_new plain new_plain closed handed) (lives s f main out front old new behind live known apt some some_new plain new_plain closed handed) known from at test grows n w lt again t t2 sa sb shut r run c),
     )
 
 -- lines to which no run comes may be any
-pub unreached_follow : (s : Setting) (f main : ℕ) (out : RegSet) (front old new behind : List Line) (live : ℕ → RegSet) (known : ℕ → State → Type 0)
-    → IsApt f out (with_lines s f (whole front old behind)) → 1 ≤ length old → 1 ≤ length (whole front new behind) → AreInstructions old → AreInstructions new
-    → IsClosed (whole front old behind) out live → IsHandedOn s.place (whole front old behind) known → ((t : State) → known (length front) t → ⊥)
-    → (map : ℕ → ℕ) × Follows (mapped_in f map) 0 (with_lines s f (whole front old behind)) (with_lines s f (whole front new behind)) main
-unreached_follow s f main out front old new behind live known apt some some_new plain new_plain closed handed never = (
+pub unreached_follow : (f main : ℕ) (out : RegSet) (front old new behind : List Line) (live : ℕ → RegSet) (known : ℕ → State → Type 0)
+    → 1 ≤ length old → 1 ≤ length (whole front new behind) → AreInstructions old → AreInstructions new
+    → IsClosed (whole front old behind) out live → ((t : State) → known (length front) t → ⊥)
+    → (map : ℕ → ℕ) × ((s : Setting) → IsApt f out (with_lines s f (whole front old behind)) → IsHandedOn s.place (whole front old behind) known
+    → Follows (mapped_in f map) 0 (with_lines s f (whole front old behind)) (with_lines s f (whole front new behind)) main)
+unreached_follow f main out front old new behind live known some some_new plain new_plain closed never = (
   moved_place front old new behind some plain new_plain,
-  follows s (A s f main out front old new behind live known apt some some_new plain new_plain closed handed) (B s f main out front old new behind live known apt some some_new plain new_plain closed handed) f (length front) main old
+  λ s apt handed.
+      follows s (A s f main out front old new behind live known apt some some_new plain new_plain closed handed) (B s f main out front old new behind live known apt some some_new plain new_plain closed handed) f (length front) main old
       (m s f main out front old new behind live known apt some some_new plain new_plain closed handed) (lives s f main out front old new behind live known apt some some_new plain new_plain closed handed) known
       (outside s f main out front old new behind live known apt some some_new plain new_plain closed handed) (λ test grows n w lt again t t2 sa sb shut r run c. absurd (never t2 (r.knows refl (omega arith) (sym r.near.ended ∙ run)))),
 )
@@ -375,26 +380,25 @@ parted lines at count =
     ∙ (ap (λ (x : List Line). take at lines ++ x) (take-append-drop count (drop at lines)) ∙ take-append-drop at lines)
 
 pub justified_lines_follow : JustifiedFollow
-justified_lines_follow s f main out lines table at count new apt is within some inner sound new_inner some_new j =
-    let front : List Line = take at lines in
-    let old : List Line = window lines at count in
-    let rest : List Line = drop (at + count) lines in
+justified_lines_follow f main out lines table at count new is within some inner sound new_inner some_new =
     let same : whole (take at lines) (window lines at count) (drop (at + count) lines) ≡ lines = parted lines at count in
     let long : length (take at lines) ≡ at = length-take-le at lines (omega (arith, within)) in
     let wide : length (window lines at count) ≡ count = length-take-le count (drop at lines) (omega (arith, within, length-drop at lines)) in
     let end : length (take at lines) + length (window lines at count) ≡ at + count = omega (arith, long, wide) in
-    let apt2 = subst (λ (x : List Line). IsApt f out (with_lines s f x)) (sym same) apt in
     let is2 = subst (λ (x : List Line). IsLiveTable x out table) (sym same) is in
-    let j2 = subst (λ (x : List Line). Justified (with_lines s f x) (exit_place x (at + count)) (λ e. before_place out x (live_after table) (exit_place x (at + count) e)) (Knows x at) (window lines at count) new) (sym same) j in
-    let whole_lines : List Line = whole (take at lines) (window lines at count) (drop (at + count) lines) in
-    let j3 = subst (λ (n : ℕ). Justified (with_lines s f (whole (take at lines) (window lines at count) (drop (at + count) lines))) (exit_place (whole (take at lines) (window lines at count) (drop (at + count) lines)) n)
-    (λ e. before_place out (whole (take at lines) (window lines at count) (drop (at + count) lines)) (live_after table) (exit_place (whole (take at lines) (window lines at count) (drop (at + count) lines)) n e))
-    (Knows (whole (take at lines) (window lines at count) (drop (at + count) lines)) at) (window lines at count) new) (sym end) j2 in
-    let j4 = subst (λ (n : ℕ). Justified (with_lines s f (whole (take at lines) (window lines at count) (drop (at + count) lines))) (exit_place (whole (take at lines) (window lines at count) (drop (at + count) lines)) (length (take at lines) + length (window lines at count)))
-    (λ e. before_place out (whole (take at lines) (window lines at count) (drop (at + count) lines)) (live_after table) (exit_place (whole (take at lines) (window lines at count) (drop (at + count) lines)) (length (take at lines) + length (window lines at count)) e))
-    (Knows (whole (take at lines) (window lines at count) (drop (at + count) lines)) n) (window lines at count) new) (sym long) j3 in
-    let done = justified_follow s f main out (take at lines) (window lines at count) new (drop (at + count) lines) (live_after table) (Knows (whole (take at lines) (window lines at count) (drop (at + count) lines)))
-    apt2 sound (omega (arith, some, wide)) some_new inner new_inner
-    (live_tables_are_closed (whole (take at lines) (window lines at count) (drop (at + count) lines)) out table is2)
-    (handed_on s.place (whole (take at lines) (window lines at count) (drop (at + count) lines)) (sound_here s f (whole (take at lines) (window lines at count) (drop (at + count) lines)) out apt2).fit) j4 in
-    (done.0, subst (λ (x : List Line). Follows (mapped_in f done.0) 0 (with_lines s f x) (with_lines s f (replaced lines at count new)) main) same done.1)
+    let done = justified_follow f main out (take at lines) (window lines at count) new (drop (at + count) lines) (live_after table) (Knows (whole (take at lines) (window lines at count) (drop (at + count) lines)))
+    sound (omega (arith, some, wide)) some_new inner new_inner
+    (live_tables_are_closed (whole (take at lines) (window lines at count) (drop (at + count) lines)) out table is2) in (
+      done.0,
+      λ s apt j.
+          let apt2 = subst (λ (x : List Line). IsApt f out (with_lines s f x)) (sym same) apt in
+          let j2 = subst (λ (x : List Line). Justified (with_lines s f x) (exit_place x (at + count)) (λ e. before_place out x (live_after table) (exit_place x (at + count) e)) (Knows x at) (window lines at count) new) (sym same) j in
+          let j3 = subst (λ (n : ℕ). Justified (with_lines s f (whole (take at lines) (window lines at count) (drop (at + count) lines))) (exit_place (whole (take at lines) (window lines at count) (drop (at + count) lines)) n)
+          (λ e. before_place out (whole (take at lines) (window lines at count) (drop (at + count) lines)) (live_after table) (exit_place (whole (take at lines) (window lines at count) (drop (at + count) lines)) n e))
+          (Knows (whole (take at lines) (window lines at count) (drop (at + count) lines)) at) (window lines at count) new) (sym end) j2 in
+          let j4 = subst (λ (n : ℕ). Justified (with_lines s f (whole (take at lines) (window lines at count) (drop (at + count) lines))) (exit_place (whole (take at lines) (window lines at count) (drop (at + count) lines)) (length (take at lines) + length (window lines at count)))
+          (λ e. before_place out (whole (take at lines) (window lines at count) (drop (at + count) lines)) (live_after table) (exit_place (whole (take at lines) (window lines at count) (drop (at + count) lines)) (length (take at lines) + length (window lines at count)) e))
+          (Knows (whole (take at lines) (window lines at count) (drop (at + count) lines)) n) (window lines at count) new) (sym long) j3 in
+          subst (λ (x : List Line). Follows (mapped_in f done.0) 0 (with_lines s f x) (with_lines s f (replaced lines at count new)) main) same
+          (done.1 s apt2 (handed_on s.place (whole (take at lines) (window lines at count) (drop (at + count) lines)) (sound_here s f (whole (take at lines) (window lines at count) (drop (at + count) lines)) out apt2).fit) j4),
+    )

@@ -52,13 +52,14 @@ abbrev pub window : List Line → ℕ → ℕ → List Line
 window lines at count = take count (drop at lines)
 
 -- Where new lines are justified for those of a function at a place, by what is live behind these and by what the note before them
--- says, a code with the new lines in their place follows the old code.
+-- says, a code with the new lines in their place follows the old code. One map of places serves in all codes.
 abbrev pub JustifiedFollow : Type 0
-JustifiedFollow = (s : Setting) (f main : ℕ) (out : RegSet) (lines : List Line) (table : Table) (at count : ℕ) (new : List Line)
-    → IsApt f out (with_lines s f lines) → IsLiveTable lines out table → at + count ≤ length lines → 1 ≤ count → AreInner (window lines at count)
+JustifiedFollow = (f main : ℕ) (out : RegSet) (lines : List Line) (table : Table) (at count : ℕ) (new : List Line)
+    → IsLiveTable lines out table → at + count ≤ length lines → 1 ≤ count → AreInner (window lines at count)
     → IsSound new → AreInner new → 1 ≤ length (replaced lines at count new)
+    → (map : ℕ → ℕ) × ((s : Setting) → IsApt f out (with_lines s f lines)
     → Justified (with_lines s f lines) (exit_place lines (at + count)) (λ exit. before_place out lines (live_after table) (exit_place lines (at + count) exit)) (Knows lines at) (window lines at count) new
-    → (map : ℕ → ℕ) × Follows (mapped_in f map) 0 (with_lines s f lines) (with_lines s f (replaced lines at count new)) main
+    → Follows (mapped_in f map) 0 (with_lines s f lines) (with_lines s f (replaced lines at count new)) main)
 
 -- Where a code follows a second one, which follows a third, it follows the third: the maps one behind the other, and the weights added.
 abbrev pub FollowingComposes : Type 0

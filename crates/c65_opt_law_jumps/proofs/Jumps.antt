@@ -154,15 +154,15 @@ module _ (s : Setting) (to : WayOut → ℕ) (after : WayOut → RegSet) (known 
 -- ---- the rules
 
 -- what a window of one line owes
-one_line : (s : Setting) (f main : ℕ) (out : RegSet) (lines : List Line) (table : Table) (at : ℕ) (w : Rewriting) → IsApt f out (with_lines s f lines) → IsLiveTable lines out table → IsSound (rewritten lines w) → 1 ≤ length (rewritten lines w)
+one_line : (f main : ℕ) (out : RegSet) (lines : List Line) (table : Table) (at : ℕ) (w : Rewriting) → IsLiveTable lines out table → IsSound (rewritten lines w) → 1 ≤ length (rewritten lines w)
     → (line : Line) (post : List Line) → drop at lines ≡ line ∷ post → record { at = at; count = 1; lines = [] } ≡ w → IsInner (form_of line)
-    → Justified (with_lines s f lines) (exit_place lines (at + 1)) (λ e. before_place out lines (live_after table) (exit_place lines (at + 1) e)) (Knows lines at) (line ∷ []) [] → IsFollowedBy s f main lines (rewritten lines w)
-one_line s f main out lines table at w apt is sound more line post e made inner j =
+    → ((s : Setting) → IsApt f out (with_lines s f lines) → Justified (with_lines s f lines) (exit_place lines (at + 1)) (λ e. before_place out lines (live_after table) (exit_place lines (at + 1) e)) (Knows lines at) (line ∷ []) []) → IsFollowedBy f main out lines (rewritten lines w)
+one_line f main out lines table at w is sound more line post e made inner j =
     let old : take 1 (drop at lines) ≡ line ∷ [] = ap (take 1) e in
-    subst (λ (x : Rewriting). IsFollowedBy s f main lines (rewritten lines x)) made
-    (window_is_followed s f main out lines table at (record { at = at; count = 1; lines = [] }) apt is refl (omega arith) (room lines at line post e) (subst AreInner (sym old) (inner, tt)) tt
+    subst (λ (x : Rewriting). IsFollowedBy f main out lines (rewritten lines x)) made
+    (window_is_followed f main out lines table at (record { at = at; count = 1; lines = [] }) is refl (omega arith) (room lines at line post e) (subst AreInner (sym old) (inner, tt)) tt
     (subst (λ (x : Rewriting). IsSound (rewritten lines x)) (sym made) sound) (subst (λ (x : Rewriting). 1 ≤ length (rewritten lines x)) (sym made) more)
-    (subst (λ (x : List Line). Justified (with_lines s f lines) (exit_place lines (at + 1)) (λ e. before_place out lines (live_after table) (exit_place lines (at + 1) e)) (Knows lines at) x []) (sym old) j))
+    (λ s apt. subst (λ (x : List Line). Justified (with_lines s f lines) (exit_place lines (at + 1)) (λ e. before_place out lines (live_after table) (exit_place lines (at + 1) e)) (Knows lines at) x []) (sym old) (j s apt)))
 
 gone_is : (b : Bool) (at : ℕ) (w : Rewriting) → gone_if b at ≡ Some w → (b ≡ true) × (record { at = at; count = 1; lines = [] } ≡ w)
 gone_is false at w m = absurd cc
@@ -178,34 +178,34 @@ branch_line (Do op Relative (To l)) post fit h = (op, l, branch_form op l fit, h
 branch_line _ post fit h = absurd cc
 
 pub idle_jump_followed : RuleIsFollowed 1
-idle_jump_followed s f main out literals lines table at w segment apt is m sound more =
-    at_line 1 out literals lines table at w (IsFollowedBy s f main lines (rewritten lines w)) (λ line post e k.
+idle_jump_followed f main out literals lines table at w segment is m sound more =
+    at_line 1 out literals lines table at w (IsFollowedBy f main out lines (rewritten lines w)) (λ line post e k.
     let made = gone_is (begins_with_target (jump_target line) post) at w k in
     let j = jump_form line post made.0 in
     let same : settle lines (labelled lines j.0) ≡ settle lines (at + 1) = at_once lines (at + 1) j.0 segment.labels (room lines at line post e) (ap (begins_with j.0) (behind_one lines at line post e) ∙ j.2) in
-    one_line s f main out lines table at w apt is sound more line post e made.1 (inner_by line (Jump j.0) j.1 tt)
-    (jump_goes (with_lines s f lines) (exit_place lines (at + 1)) (λ e. before_place out lines (live_after table) (exit_place lines (at + 1) e)) (Knows lines at) line j.0 j.1 same)) m
+    one_line f main out lines table at w is sound more line post e made.1 (inner_by line (Jump j.0) j.1 tt)
+    (λ s apt. jump_goes (with_lines s f lines) (exit_place lines (at + 1)) (λ e. before_place out lines (live_after table) (exit_place lines (at + 1) e)) (Knows lines at) line j.0 j.1 same)) m
 
 pub idle_branch_followed : RuleIsFollowed 2
-idle_branch_followed s f main out literals lines table at w segment apt is m sound more =
-    at_line 2 out literals lines table at w (IsFollowedBy s f main lines (rewritten lines w)) (λ line post e k.
+idle_branch_followed f main out literals lines table at w segment is m sound more =
+    at_line 2 out literals lines table at w (IsFollowedBy f main out lines (rewritten lines w)) (λ line post e k.
     let made = gone_is (begins_with_target (branch_target line) post) at w k in
     let j = branch_line line post (fit_line lines at line post segment e) made.0 in
     let same : settle lines (labelled lines j.1) ≡ settle lines (at + 1) = at_once lines (at + 1) j.1 segment.labels (room lines at line post e) (ap (begins_with j.1) (behind_one lines at line post e) ∙ j.3) in
-    one_line s f main out lines table at w apt is sound more line post e made.1 (inner_by line (Branch j.0 j.1) j.2 tt)
-    (branch_goes (with_lines s f lines) (exit_place lines (at + 1)) (λ e. before_place out lines (live_after table) (exit_place lines (at + 1) e)) (Knows lines at) line j.0 j.1 j.2 same)) m
+    one_line f main out lines table at w is sound more line post e made.1 (inner_by line (Branch j.0 j.1) j.2 tt)
+    (λ s apt. branch_goes (with_lines s f lines) (exit_place lines (at + 1)) (λ e. before_place out lines (live_after table) (exit_place lines (at + 1) e)) (Knows lines at) line j.0 j.1 j.2 same)) m
 
 known_branch : (known : Option Note) (line : Line) → is_fit line ≡ true → is_passed known line ≡ true → (op : Op) × (l : ℕ) × (form_of line ≡ Branch op l) × ((t : State) → IsTrueOf known t → is_taken op t.regs ≡ false)
 known_branch known (Do op Relative (To l)) fit h = (op, l, branch_form op l fit, λ t k. passed_shown op known t h k)
 known_branch known _ fit h = absurd cc
 
 pub passed_branch_followed : RuleIsFollowed 8
-passed_branch_followed s f main out literals lines table at w segment apt is m sound more =
-    at_line 8 out literals lines table at w (IsFollowedBy s f main lines (rewritten lines w)) (λ line post e k.
+passed_branch_followed f main out literals lines table at w segment is m sound more =
+    at_line 8 out literals lines table at w (IsFollowedBy f main out lines (rewritten lines w)) (λ line post e k.
     let made = gone_is (is_passed (slice_get (known_of lines) at) line) at w k in
     let j = known_branch (slice_get (known_of lines) at) line (fit_line lines at line post segment e) made.0 in
-    one_line s f main out lines table at w apt is sound more line post e made.1 (inner_by line (Branch j.0 j.1) j.2 tt)
-    (passed_goes (with_lines s f lines) (exit_place lines (at + 1)) (λ e. before_place out lines (live_after table) (exit_place lines (at + 1) e)) (Knows lines at) line j.0 j.1 j.2 (λ t running h. j.3 t (h running)))) m
+    one_line f main out lines table at w is sound more line post e made.1 (inner_by line (Branch j.0 j.1) j.2 tt)
+    (λ s apt. passed_goes (with_lines s f lines) (exit_place lines (at + 1)) (λ e. before_place out lines (live_after table) (exit_place lines (at + 1) e)) (Knows lines at) line j.0 j.1 j.2 (λ t running h. j.3 t (h running)))) m
 
 -- a branch round a jump
 inverted_is : (b : Bool) (at : ℕ) (op : Op) (o : Option ℕ) (w : Rewriting) → inverted_if b at op o ≡ Some w → (m : ℕ) × (b ≡ true) × (o ≡ Some m) × (record { at = at; count = 2; lines = Do (opposite op) Relative (To m) ∷ [] } ≡ w)
@@ -217,8 +217,8 @@ target_form : (line : Line) (m : ℕ) → jump_target line ≡ Some m → form_o
 target_form (Do ops.Jmp Absolute (To l)) m e = let same : l ≡ m = cc in ap Jump same
 target_form _ m e = absurd cc
 
-module _ (s : Setting) (f main : ℕ) (out : RegSet) (lines : List Line) (table : Table) (at : ℕ) (w : Rewriting) (segment : IsSegment lines) (apt : IsApt f out (with_lines s f lines)) (is : IsLiveTable lines out table) (sound : IsSound (rewritten lines w)) (more : 1 ≤ length (rewritten lines w)) where
-  inverted_line : (line : Line) (post : List Line) → drop at lines ≡ line ∷ post → inverted at line post ≡ Some w → IsFollowedBy s f main lines (rewritten lines w)
+module _ (f main : ℕ) (out : RegSet) (lines : List Line) (table : Table) (at : ℕ) (w : Rewriting) (segment : IsSegment lines) (is : IsLiveTable lines out table) (sound : IsSound (rewritten lines w)) (more : 1 ≤ length (rewritten lines w)) where
+  inverted_line : (line : Line) (post : List Line) → drop at lines ≡ line ∷ post → inverted at line post ≡ Some w → IsFollowedBy f main out lines (rewritten lines w)
   inverted_line (Do op Relative (To l)) (next ∷ post) e k =
       let made = inverted_is (begins_with l post) at op (jump_target next) w k in
       let fit : is_fit (Do op Relative (To l)) ≡ true = fit_line lines at (Do op Relative (To l)) (next ∷ post) segment e in
@@ -228,14 +228,14 @@ module _ (s : Setting) (f main : ℕ) (out : RegSet) (lines : List Line) (table 
       let wide : at + 2 ≤ length lines = omega (arith, ap length e, length-drop at lines) in
       let same : settle lines (labelled lines l) ≡ settle lines (at + 2) = at_once lines (at + 2) l segment.labels wide (ap (begins_with l) (behind_two lines at (Do op Relative (To l)) next post e) ∙ made.1) in
       let old : take 2 (drop at lines) ≡ Do op Relative (To l) ∷ next ∷ [] = ap (take 2) e in
-      subst (λ (x : Rewriting). IsFollowedBy s f main lines (rewritten lines x)) made.3
-      (window_is_followed s f main out lines table at (record { at = at; count = 2; lines = Do (opposite op) Relative (To made.0) ∷ [] }) apt is refl (omega arith) wide
+      subst (λ (x : Rewriting). IsFollowedBy f main out lines (rewritten lines x)) made.3
+      (window_is_followed f main out lines table at (record { at = at; count = 2; lines = Do (opposite op) Relative (To made.0) ∷ [] }) is refl (omega arith) wide
       (subst AreInner (sym old) (inner_by (Do op Relative (To l)) (Branch op l) form tt, (inner_by next (Jump made.0) jump tt, tt))) (inner_by (Do (opposite op) Relative (To made.0)) (Branch (opposite op) made.0) new tt, tt)
       (subst (λ (x : Rewriting). IsSound (rewritten lines x)) (sym made.3) sound) (subst (λ (x : Rewriting). 1 ≤ length (rewritten lines x)) (sym made.3) more)
-      (subst (λ (x : List Line). Justified (with_lines s f lines) (exit_place lines (at + 2)) (λ e. before_place out lines (live_after table) (exit_place lines (at + 2) e)) (Knows lines at) x (Do (opposite op) Relative (To made.0) ∷ [])) (sym old)
+      (λ s apt. subst (λ (x : List Line). Justified (with_lines s f lines) (exit_place lines (at + 2)) (λ e. before_place out lines (live_after table) (exit_place lines (at + 2) e)) (Knows lines at) x (Do (opposite op) Relative (To made.0) ∷ [])) (sym old)
       (turned (with_lines s f lines) (exit_place lines (at + 2)) (λ e. before_place out lines (live_after table) (exit_place lines (at + 2) e)) (Knows lines at) (Do op Relative (To l)) next (Do (opposite op) Relative (To made.0)) op (opposite op) l made.0 form jump new (λ t. opposite_taken op l t fit) same)))
   inverted_line _ _ e k = absurd cc
 
 pub inverted_followed : RuleIsFollowed 6
-inverted_followed s f main out literals lines table at w segment apt is m sound more =
-    at_line 6 out literals lines table at w (IsFollowedBy s f main lines (rewritten lines w)) (λ line post e k. inverted_line s f main out lines table at w segment apt is sound more line post e k) m
+inverted_followed f main out literals lines table at w segment is m sound more =
+    at_line 6 out literals lines table at w (IsFollowedBy f main out lines (rewritten lines w)) (λ line post e k. inverted_line f main out lines table at w segment is sound more line post e k) m

@@ -42,8 +42,8 @@ use Rattle.c65_opt_law_jumps.proofs.Jumps.{at_line, get_at, fit_line}
 use Rattle.c65_opt_law_jumps.proofs.Labels.{settle_only, label_apart}
 
 -- two lines of a function of which the second is reached from the first alone, if at all
-module _ (s : Setting) (f main : ℕ) (out : RegSet) (lines : List Line) (table : Table) (at : ℕ) (line next_line : Line) (post : List Line) (e : drop at lines ≡ line ∷ next_line ∷ post) (first : IsInstruction line) (second : IsInstruction next_line)
-    (apt : IsApt f out (with_lines s f lines)) (is : IsLiveTable lines out table) (no_call : IsCall (form_of line) → ⊥)
+module _ (f main : ℕ) (out : RegSet) (lines : List Line) (table : Table) (at : ℕ) (line next_line : Line) (post : List Line) (e : drop at lines ≡ line ∷ next_line ∷ post) (first : IsInstruction line) (second : IsInstruction next_line)
+    (is : IsLiveTable lines out table) (no_call : IsCall (form_of line) → ⊥)
     (never : (t : State) → t.ended ≡ None → IsTrueOf (slice_get (known_of lines) at) t → IsLocal (form_of line) → next lines (form_of line) at t.regs ≡ suc at → ⊥) where
   here : slice_get lines at ≡ Some line
   here = get_at lines at line (next_line ∷ post) e
@@ -79,8 +79,8 @@ module _ (s : Setting) (f main : ℕ) (out : RegSet) (lines : List Line) (table 
           turn true z = absurd (not_labelled k (sym (branch_by lines l op k q regs true form z) ∙ n))
           turn false z = onward (sym (branch_by lines l op k q regs false form z) ∙ n)
 
-  reached : IsHandedOn s.place lines Reached
-  reached = record {
+  reached : (s : Setting) → IsApt f out (with_lines s f lines) → IsHandedOn s.place lines Reached
+  reached s apt = record {
     entry = λ t. (notes.entry t, λ h. absurd (omega (arith, settle_only lines 0 at line here first h)));
     behind_call = λ q l t h i. (notes.behind_call q l t h i, λ k. behind q l h i (settle_only lines (suc q) at line here first k));
     line = λ q l t u h i bytes running does k. (notes.line q l t u h i bytes running does k.0, λ n. stopped q l t h i running k.0 n (only_here q l t.regs h i n));
@@ -102,16 +102,20 @@ module _ (s : Setting) (f main : ℕ) (out : RegSet) (lines : List Line) (table 
           never t running (subst (λ (x : ℕ). IsTrueOf (slice_get (known_of lines) x) t) q_is (k running)) (subst (λ (x : Line). IsLocal (form_of x)) l_is i)
           (subst (λ (x : Line). next lines (form_of x) at t.regs ≡ suc at) l_is (subst (λ (x : ℕ). next lines (form_of l) x t.regs ≡ suc at) q_is n))
 
-  pub goes : 1 ≤ length (take (suc at) lines ++ drop (suc at + 1) lines) → IsFollowedBy s f main lines (take (suc at) lines ++ drop (suc at + 1) lines)
+  pub goes : 1 ≤ length (take (suc at) lines ++ drop (suc at + 1) lines) → IsFollowedBy f main out lines (take (suc at) lines ++ drop (suc at + 1) lines)
   goes more =
       let old : window lines (suc at) 1 ≡ next_line ∷ [] = ap (take 1) rest in
       let same : whole (take (suc at) lines) (window lines (suc at) 1) (drop (suc at + 1) lines) ≡ lines = parted lines (suc at) 1 in
       let long : length (take (suc at) lines) ≡ suc at = length-take-le (suc at) lines (omega (arith, ap length e, length-drop at lines)) in
-      let done = unreached_follow s f main out (take (suc at) lines) (window lines (suc at) 1) [] (drop (suc at + 1) lines) (live_after table) (λ q t. Knows lines q t × (q ≡ suc at → ⊥))
-      (subst (λ (x : List Line). IsApt f out (with_lines s f x)) (sym same) apt) (subst (λ (x : List Line). 1 ≤ length x) (sym old) (omega arith)) more (subst AreInstructions (sym old) (second, tt)) tt
-      (live_tables_are_closed (whole (take (suc at) lines) (window lines (suc at) 1) (drop (suc at + 1) lines)) out table (subst (λ (x : List Line). IsLiveTable x out table) (sym same) is))
-      (subst (λ (x : List Line). IsHandedOn s.place x (λ q t. Knows lines q t × (q ≡ suc at → ⊥))) (sym same) reached) (λ t k. k.1 long) in
-      record { map = done.0; more = 0; follows = subst (λ (x : List Line). Follows (mapped_in f done.0) 0 (with_lines s f x) (with_lines s f (take (suc at) lines ++ drop (suc at + 1) lines)) main) same done.1 }
+      let done = unreached_follow f main out (take (suc at) lines) (window lines (suc at) 1) [] (drop (suc at + 1) lines) (live_after table) (λ q t. Knows lines q t × (q ≡ suc at → ⊥))
+      (subst (λ (x : List Line). 1 ≤ length x) (sym old) (omega arith)) more (subst AreInstructions (sym old) (second, tt)) tt
+      (live_tables_are_closed (whole (take (suc at) lines) (window lines (suc at) 1) (drop (suc at + 1) lines)) out table (subst (λ (x : List Line). IsLiveTable x out table) (sym same) is)) (λ t k. k.1 long) in
+      record {
+        map = done.0;
+        more = 0;
+        follows = λ s apt. subst (λ (x : List Line). Follows (mapped_in f done.0) 0 (with_lines s f x) (with_lines s f (take (suc at) lines ++ drop (suc at + 1) lines)) main) same
+            (done.1 s (subst (λ (x : List Line). IsApt f out (with_lines s f x)) (sym same) apt) (subst (λ (x : List Line). IsHandedOn s.place x (λ q t. Knows lines q t × (q ≡ suc at → ⊥))) (sym same) (reached s apt)));
+      }
 
 -- ---- the rules
 
@@ -174,7 +178,7 @@ goes_on [] h = absurd cc
 goes_on (first ∷ []) h = absurd cc
 goes_on (first ∷ next_line ∷ later) h = (first, next_line ∷ later, refl, plain_line first h)
 
-module _ (s : Setting) (f main : ℕ) (out : RegSet) (literals : List (Sym × List ℕ)) (lines : List Line) (table : Table) (at : ℕ) (w : Rewriting) (segment : IsSegment lines) (apt : IsApt f out (with_lines s f lines)) (is : IsLiveTable lines out table)
+module _ (f main : ℕ) (out : RegSet) (literals : List (Sym × List ℕ)) (lines : List Line) (table : Table) (at : ℕ) (w : Rewriting) (segment : IsSegment lines) (is : IsLiveTable lines out table)
     (more : 1 ≤ length (rewritten lines w)) where
   second_line : (line next_line : Line) (later : List Line) → drop at lines ≡ line ∷ next_line ∷ later → slice_get lines (suc at) ≡ Some next_line
   second_line line next_line later e = get_at lines (suc at) next_line later (let n : at + 1 ≡ suc at = omega arith in ap (λ (k : ℕ). drop k lines) (sym n) ∙ (sym (drop-drop 1 at lines) ∙ ap (drop 1) e))
@@ -182,7 +186,7 @@ module _ (s : Setting) (f main : ℕ) (out : RegSet) (literals : List (Sym × Li
   -- the line behind one goes, where no run comes to it
   behind_goes : (line : Line) (post : List Line) (b c : Bool) → drop at lines ≡ line ∷ post → alone_if (b && c) at line ≡ Some w → (c ≡ true → BeginsPlainly post)
       → (b ≡ true → IsInstruction line × (IsCall (form_of line) → ⊥) × ((t : State) → t.ended ≡ None → IsTrueOf (slice_get (known_of lines) at) t → IsLocal (form_of line) → (k : ℕ) × (next lines (form_of line) at t.regs ≡ settle lines (labelled lines k))))
-      → IsFollowedBy s f main lines (rewritten lines w)
+      → IsFollowedBy f main out lines (rewritten lines w)
   behind_goes line post b c e k begins facts =
       let made = alone_is (b && c) at line w k in
       let both = and_parts b c made.0 in
@@ -192,20 +196,20 @@ module _ (s : Setting) (f main : ℕ) (out : RegSet) (literals : List (Sym × Li
       let gone : take (suc at) lines ++ drop (suc at + 1) lines ≡ rewritten lines w =
       ap (λ (x : List Line). x ++ drop (suc at + 1) lines) (take_one lines at line post e) ∙ (append_assoc (take at lines) (line ∷ []) (drop (suc at + 1) lines)
       ∙ (ap (λ (n : ℕ). take at lines ++ (line ∷ drop n lines)) (let n : suc at + 1 ≡ at + 2 = omega arith in n) ∙ ap (rewritten lines) made.1)) in
-      subst (λ (x : List Line). IsFollowedBy s f main lines x) gone
-      (goes s f main out lines table at line second.0 second.1 e2 fact.0 second.3 apt is fact.1
+      subst (λ (x : List Line). IsFollowedBy f main out lines x) gone
+      (goes f main out lines table at line second.0 second.1 e2 fact.0 second.3 is fact.1
       (λ t running known local n. let leads = fact.2 t running known local in label_apart lines leads.0 (suc at) second.0 (second_line line second.0 second.1 e2) second.3 (settle_only lines (labelled lines leads.0) at line (get_at lines at line post e) fact.0 (sym leads.1 ∙ n)))
       (subst (λ (x : List Line). 1 ≤ length x) (sym gone) more))
 
 pub unreached_followed : RuleIsFollowed 3
-unreached_followed s f main out literals lines table at w segment apt is m sound more =
-    at_line 3 out literals lines table at w (IsFollowedBy s f main lines (rewritten lines w)) (λ line post e k.
-    behind_goes s f main out literals lines table at w segment apt is more line post (is_closing line) (begins_plainly post) e k (begins post)
+unreached_followed f main out literals lines table at w segment is m sound more =
+    at_line 3 out literals lines table at w (IsFollowedBy f main out lines (rewritten lines w)) (λ line post e k.
+    behind_goes f main out literals lines table at w segment is more line post (is_closing line) (begins_plainly post) e k (begins post)
     (λ h. (closing_plain line h, closing_no_call line h, λ t running known local. let leads = closing_leads line h local in (leads.0, leads.1 lines at t.regs)))) m
 
 pub passed_over_followed : RuleIsFollowed 9
-passed_over_followed s f main out literals lines table at w segment apt is m sound more =
-    at_line 9 out literals lines table at w (IsFollowedBy s f main lines (rewritten lines w)) (λ line post e k.
-    behind_goes s f main out literals lines table at w segment apt is more line post (is_shown_taken (slice_get (known_of lines) at) line) (goes_on_plainly post) e k (goes_on post)
+passed_over_followed f main out literals lines table at w segment is m sound more =
+    at_line 9 out literals lines table at w (IsFollowedBy f main out lines (rewritten lines w)) (λ line post e k.
+    behind_goes f main out literals lines table at w segment is more line post (is_shown_taken (slice_get (known_of lines) at) line) (goes_on_plainly post) e k (goes_on post)
     (λ h. let b = taken_line (slice_get (known_of lines) at) line (fit_line lines at line post segment e) h in
     (b.3, (λ i. subst IsCall b.2 i), λ t running known local. (b.1, branch_by lines line b.0 b.1 at t.regs true b.2 (b.4 t known))))) m

@@ -123,29 +123,30 @@ sound_part : (xs ys zs : List Line) → IsSound (xs ++ (ys ++ zs)) → IsSound y
 sound_part xs ys zs h = record { fit = (fit_part ys zs (fit_part xs (ys ++ zs) h.fit).1).0; bytes = (bytes_part ys zs (bytes_part xs (ys ++ zs) h.bytes).1).0 }
 
 -- where what a rule makes is justified, it is followed
-pub window_is_followed : (s : Setting) (f main : ℕ) (out : RegSet) (lines : List Line) (table : Table) (at : ℕ) (w : Rewriting) → IsApt f out (with_lines s f lines) → IsLiveTable lines out table
+pub window_is_followed : (f main : ℕ) (out : RegSet) (lines : List Line) (table : Table) (at : ℕ) (w : Rewriting) → IsLiveTable lines out table
     → w.at ≡ at → 1 ≤ w.count → at + w.count ≤ length lines → AreInner (take w.count (drop at lines)) → AreInner w.lines → IsSound (rewritten lines w) → 1 ≤ length (rewritten lines w)
-    → Justified (with_lines s f lines) (exit_place lines (at + w.count)) (λ e. before_place out lines (live_after table) (exit_place lines (at + w.count) e)) (Knows lines at) (take w.count (drop at lines)) w.lines
-    → IsFollowedBy s f main lines (rewritten lines w)
-window_is_followed s f main out lines table at w apt is place some within inner new_inner sound more j =
+    → ((s : Setting) → IsApt f out (with_lines s f lines) → Justified (with_lines s f lines) (exit_place lines (at + w.count)) (λ e. before_place out lines (live_after table) (exit_place lines (at + w.count) e)) (Knows lines at) (take w.count (drop at lines)) w.lines)
+    → IsFollowedBy f main out lines (rewritten lines w)
+window_is_followed f main out lines table at w is place some within inner new_inner sound more j =
     let same : rewritten lines w ≡ take at lines ++ (w.lines ++ drop (at + w.count) lines) = ap (λ (n : ℕ). take n lines ++ (w.lines ++ drop (n + w.count) lines)) place in
     let new : IsSound w.lines = sound_part (take at lines) w.lines (drop (at + w.count) lines) (subst IsSound same sound) in
-    let done = justified_lines_follow s f main out lines table at w.count w.lines apt is within some inner new new_inner (subst (λ (x : List Line). 1 ≤ length x) same more) j in
-    record { map = done.0; more = 0; follows = subst (λ (x : List Line). Follows (mapped_in f done.0) 0 (with_lines s f lines) (with_lines s f x) main) (sym same) done.1 }
+    let done = justified_lines_follow f main out lines table at w.count w.lines is within some inner new new_inner (subst (λ (x : List Line). 1 ≤ length x) same more) in
+    record { map = done.0; more = 0; follows = λ s apt. subst (λ (x : List Line). Follows (mapped_in f done.0) 0 (with_lines s f lines) (with_lines s f x) main) (sym same) (done.1 s apt (j s apt)) }
 
 -- where a rule does what such lines do, it is followed
-pub done_is_followed : (rule : ℕ) → ((s : Setting) (literals : List (Sym × List ℕ)) (out : RegSet) (lines : List Line) (table : Table) (at : ℕ) (w : Rewriting) → match_at rule literals (annotated lines out) table at ≡ Some w → InRow lines at w × IsDone s lines table at w) → RuleIsFollowed rule
-done_is_followed rule done s f main out literals lines table at w segment apt is m sound some =
-    let both = done (with_lines s f lines) literals out lines table at w m in
+pub done_is_followed : (rule : ℕ) → ((literals : List (Sym × List ℕ)) (out : RegSet) (lines : List Line) (table : Table) (at : ℕ) (w : Rewriting) → match_at rule literals (annotated lines out) table at ≡ Some w → InRow lines at w × ((s : Setting) → IsDone s lines table at w)) → RuleIsFollowed rule
+done_is_followed rule done f main out literals lines table at w segment is m sound some =
+    let both = done literals out lines table at w m in
     let row : InRow lines at w = both.0 in
-    let here : IsSound lines = sound_here s f lines out apt in
     let inner : AreInner (take w.count (drop at lines)) = steps_inner (take w.count (drop at lines)) row.old in
     let has : HasAt lines at (take w.count (drop at lines)) = has_window lines at w.count (omega (arith, row.within)) in
+    window_is_followed f main out lines table at w is row.place row.some row.within inner (steps_inner w.lines row.new) sound some (λ s apt.
+    let here : IsSound lines = sound_here s f lines out apt in
     let good : AreGood (take w.count (drop at lines)) = good_at lines at (take w.count (drop at lines)) here.fit here.bytes inner has in
-    window_is_followed s f main out lines table at w apt is row.place row.some row.within inner (steps_inner w.lines row.new) sound some (justified (with_lines s f lines) apt.low out lines table at w is both.1 row good has)
+    justified (with_lines s f lines) apt.low out lines table at w is (both.1 (with_lines s f lines)) row good has)
 
 pub kept_is_followed : (rule : ℕ) → IsKept rule → ((out : RegSet) (literals : List (Sym × List ℕ)) (lines : List Line) (table : Table) (at : ℕ) (w : Rewriting) → match_at rule literals (annotated lines out) table at ≡ Some w → InRow lines at w) → RuleIsFollowed rule
-kept_is_followed rule kept rows = done_is_followed rule (λ s literals out lines table at w m. (
+kept_is_followed rule kept rows = done_is_followed rule (λ literals out lines table at w m. (
   rows out literals lines table at w m,
-  λ t u so straight. let k = kept s literals (annotated lines out) table at w t u m so straight in (k.0, k.1, agree_near (live_after table (at + w.count - 1)) u k.0 k.2),
+  λ s t u so straight. let k = kept s literals (annotated lines out) table at w t u m so straight in (k.0, k.1, agree_near (live_after table (at + w.count - 1)) u k.0 k.2),
 ))

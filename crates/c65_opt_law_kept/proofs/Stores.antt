@@ -81,29 +81,29 @@ stored_near s live ops.Sty i t u h near step = subst (λ (x : State). Near live 
 stored_near s live _ i t u h near step = absurd cc
 
 module _ (dead : DeadIsNotLive) where
-  dead_store : (s : Setting) (table : Table) (q : ℕ) (line : Line) → is_dead_store table q line ≡ true → IsStep (form_of line) × ((t u : State) → Steps s line t u → Near (live_after table q) u t)
-  dead_store s table q (Do op ZeroPage (Zero i)) h =
+  dead_store : (table : Table) (q : ℕ) (line : Line) → is_dead_store table q line ≡ true → IsStep (form_of line) × ((s : Setting) (t u : State) → Steps s line t u → Near (live_after table q) u t)
+  dead_store table q (Do op ZeroPage (Zero i)) h =
       let first = and_parts (is_some (stored_by op)) _ h in
       let rest = and_parts (is_scratch i) (is_dead table q (set_of (parts.Zp i ∷ []))) first.1 in
       let bounds = and_parts (nat_le 2 i) (nat_le i 19) rest.0 in
       let has : has_part (set_of (parts.Zp i ∷ [])) (parts.Zp i) ≡ true = (with_iff no_parts (parts.Zp i) (parts.Zp i)).1 (inl refl) in
-      (stored_step op i first.0, λ t u step. stored_near s (live_after table q) op i t u first.0 (λ v. near_stored (live_after table q) t i v (leb-true 2 i bounds.0) (leb-true i 19 bounds.1) (dead table q (set_of (parts.Zp i ∷ [])) rest.1 (parts.Zp i) has)) step)
-  dead_store s table q _ h = absurd cc
+      (stored_step op i first.0, λ s t u step. stored_near s (live_after table q) op i t u first.0 (λ v. near_stored (live_after table q) t i v (leb-true 2 i bounds.0) (leb-true i 19 bounds.1) (dead table q (set_of (parts.Zp i ∷ [])) rest.1 (parts.Zp i) has)) step)
+  dead_store table q _ h = absurd cc
 
   -- the line goes
-  gone : (s : Setting) (lines : List Line) (table : Table) (at : ℕ) (w : Rewriting) (line : Line) (post : List Line) (b : Bool) → drop at lines ≡ line ∷ post → (b ≡ true → IsStep (form_of line) × ((t u : State) → Steps s line t u → Near (live_after table at) u t))
-      → gone_if b at ≡ Some w → InRow lines at w × IsDone s lines table at w
-  gone s lines table at w line post false e facts m = absurd cc
-  gone s lines table at w line post true e facts m =
+  gone : (lines : List Line) (table : Table) (at : ℕ) (w : Rewriting) (line : Line) (post : List Line) (b : Bool) → drop at lines ≡ line ∷ post → (b ≡ true → IsStep (form_of line) × ((s : Setting) (t u : State) → Steps s line t u → Near (live_after table at) u t))
+      → gone_if b at ≡ Some w → InRow lines at w × ((s : Setting) → IsDone s lines table at w)
+  gone lines table at w line post false e facts m = absurd cc
+  gone lines table at w line post true e facts m =
       let is : record { at = at; count = 1; lines = [] } ≡ w = cc in
       let q : at ≡ at + 1 - 1 = omega arith in (
         gone_row lines at line post w true e (λ h. (facts refl).0) m,
-        subst (IsDone s lines table at) is (λ t u so straight. (t, done, subst (λ (n : ℕ). Near (live_after table n) u t) q ((facts refl).1 t u (one (subst (λ (x : List Line). Straight s (take 1 x) t u) e straight))))),
+        λ s. subst (IsDone s lines table at) is (λ t u so straight. (t, done, subst (λ (n : ℕ). Near (live_after table n) u t) q ((facts refl).1 s t u (one (subst (λ (x : List Line). Straight s (take 1 x) t u) e straight))))),
       )
 
   pub dead_store_followed : RuleIsFollowed 12
-  dead_store_followed = done_is_followed 12 (λ s literals out lines table at w m. go s literals out lines table at w (drop at lines) refl m)
+  dead_store_followed = done_is_followed 12 (λ literals out lines table at w m. go literals out lines table at w (drop at lines) refl m)
     where
-      go : (s : Setting) (literals : List (Sym × List ℕ)) (out : RegSet) (lines : List Line) (table : Table) (at : ℕ) (w : Rewriting) (rest : List Line) → drop at lines ≡ rest → match_there 12 literals (annotated lines out) table at rest ≡ Some w → InRow lines at w × IsDone s lines table at w
-      go s literals out lines table at w [] e k = absurd cc
-      go s literals out lines table at w (line ∷ post) e k = gone s lines table at w line post (is_dead_store table at line) e (dead_store s table at line) k
+      go : (literals : List (Sym × List ℕ)) (out : RegSet) (lines : List Line) (table : Table) (at : ℕ) (w : Rewriting) (rest : List Line) → drop at lines ≡ rest → match_there 12 literals (annotated lines out) table at rest ≡ Some w → InRow lines at w × ((s : Setting) → IsDone s lines table at w)
+      go literals out lines table at w [] e k = absurd cc
+      go literals out lines table at w (line ∷ post) e k = gone lines table at w line post (is_dead_store table at line) e (dead_store table at line) k

@@ -44,14 +44,14 @@ pub has_at : (lines : List Line) (at : ℕ) (ls post : List Line) → drop at li
 has_at lines at [] post e = tt
 has_at lines at (l ∷ ls) post e = (head_at lines at l (ls ++ post) e, has_at lines (suc at) ls post (tail_at lines at l (ls ++ post) e))
 
-module _ (s : Setting) (f main : ℕ) (out : RegSet) (lines : List Line) (table : Table) (at : ℕ) (w : Rewriting) (apt : IsApt f out (with_lines s f lines)) (is : IsLiveTable lines out table) (sound : IsSound (rewritten lines w)) (more : 1 ≤ length (rewritten lines w)) where
+module _ (f main : ℕ) (out : RegSet) (lines : List Line) (table : Table) (at : ℕ) (w : Rewriting) (is : IsLiveTable lines out table) (sound : IsSound (rewritten lines w)) (more : 1 ≤ length (rewritten lines w)) where
   -- what is justified for the lines at a place, whatever is live and with nothing known there, is followed
   pub window_goes : (count : ℕ) (old new : List Line) → take count (drop at lines) ≡ old → 1 ≤ count → at + count ≤ length lines → record { at = at; count = count; lines = new } ≡ w → AreInner old → AreInner new
-      → ((to : WayOut → ℕ) (after : WayOut → RegSet) → Justified (with_lines s f lines) to after (λ t. Unit {0}) old new) → IsFollowedBy s f main lines (rewritten lines w)
+      → ((s : Setting) → IsApt f out (with_lines s f lines) → (to : WayOut → ℕ) (after : WayOut → RegSet) → Justified (with_lines s f lines) to after (λ t. Unit {0}) old new) → IsFollowedBy f main out lines (rewritten lines w)
   window_goes count old new e some within made inner new_inner justified =
-      subst (λ (x : Rewriting). IsFollowedBy s f main lines (rewritten lines x)) made
-      (window_is_followed s f main out lines table at (record { at = at; count = count; lines = new }) apt is refl some within (subst AreInner (sym e) inner) new_inner
+      subst (λ (x : Rewriting). IsFollowedBy f main out lines (rewritten lines x)) made
+      (window_is_followed f main out lines table at (record { at = at; count = count; lines = new }) is refl some within (subst AreInner (sym e) inner) new_inner
       (subst (λ (x : Rewriting). IsSound (rewritten lines x)) (sym made) sound) (subst (λ (x : Rewriting). 1 ≤ length (rewritten lines x)) (sym made) more)
-      (subst (λ (x : List Line). Justified (with_lines s f lines) (exit_place lines (at + count)) (λ e. before_place out lines (live_after table) (exit_place lines (at + count) e)) (Knows lines at) x new) (sym e)
+      (λ s apt. subst (λ (x : List Line). Justified (with_lines s f lines) (exit_place lines (at + count)) (λ e. before_place out lines (live_after table) (exit_place lines (at + count) e)) (Knows lines at) x new) (sym e)
       (justified_knowing (with_lines s f lines) (exit_place lines (at + count)) (λ e. before_place out lines (live_after table) (exit_place lines (at + count) e)) (Knows lines at) old new
-      (justified (exit_place lines (at + count)) (λ e. before_place out lines (live_after table) (exit_place lines (at + count) e))))))
+      (justified s apt (exit_place lines (at + count)) (λ e. before_place out lines (live_after table) (exit_place lines (at + count) e))))))

@@ -19,14 +19,14 @@ use Rattle.c65_code.specs.declared.routine.Width.TheVariants.{Ax}
 use Rattle.c65_code.specs.declared.routine.Routine.{Routine}
 use Rattle.c65_code.specs.declared.routine.Routine.TheVariants as routines
 use Rattle.c65_code.specs.Forms.{form_of}
-use Rattle.c65_code.specs.Placement.{Setting, word_of}
+use Rattle.c65_code.specs.Placement.{word_of}
 use Rattle.c65_code.specs.Rewriting.{with_lines}
 use Rattle.c65_code.specs.Rows.{number_of}
 use Rattle.c65_live.specs.Tables.{Table, IsLiveTable}
 use Rattle.c65_pass.specs.Rewriting.{Rewriting, rewritten}
 use Rattle.c65_pass.specs.StackRules.{is_settled, in_place, call_of, one_call, count_of, raising, lowering, routine_if, is_taken_back, nothing_if, moved_at_once, moved_by_byte, zero_pushed, word_at_sp, word_loaded, operated_by, unstacked, undone, one_routine, called_once, done_in_line}
 use Rattle.c65_opt_law_follow.specs.Windows.{IsSilent, IsInner, AreInner, Justified}
-use Rattle.c65_opt_law_follow.specs.Laws.{IsSound, IsApt}
+use Rattle.c65_opt_law_follow.specs.Laws.{IsSound}
 use Rattle.c65_opt_law_follow.proofs.Rewriting.{sound_here, good_at}
 use Rattle.c65_opt_law_kept.specs.Laws.{IsFollowedBy, RuleIsFollowed}
 use Rattle.c65_opt_law_stack.specs.Windows.{StandFor, byte_in}
@@ -139,66 +139,66 @@ unstack _ one other _ new e = absurd cc
 
 -- ---- the rules
 
-module _ (s : Setting) (f main : ℕ) (out : RegSet) (lines : List Line) (table : Table) (at : ℕ) (w : Rewriting) (apt : IsApt f out (with_lines s f lines)) (is : IsLiveTable lines out table) (sound : IsSound (rewritten lines w)) (more : 1 ≤ length (rewritten lines w)) where
+module _ (f main : ℕ) (out : RegSet) (lines : List Line) (table : Table) (at : ℕ) (w : Rewriting) (is : IsLiveTable lines out table) (sound : IsSound (rewritten lines w)) (more : 1 ≤ length (rewritten lines w)) where
   -- one call for two lines
-  one_goes : (line next : Line) (post : List Line) (o : Option Routine) (b : Bool) → drop at lines ≡ line ∷ next ∷ post → ((r : Routine) → o ≡ Some r → Stands line next r) → in_place (one_call o) b 2 at ≡ Some w → IsFollowedBy s f main lines (rewritten lines w)
+  one_goes : (line next : Line) (post : List Line) (o : Option Routine) (b : Bool) → drop at lines ≡ line ∷ next ∷ post → ((r : Routine) → o ≡ Some r → Stands line next r) → in_place (one_call o) b 2 at ≡ Some w → IsFollowedBy f main out lines (rewritten lines w)
   one_goes line next post o b e stands k =
       let made = placed (one_call o) b 2 at w k in
       let one = one_made o made.0 made.1 in
       let y : Stands line next one.0 = stands one.0 one.1 in
       let same : record { at = at; count = 2; lines = call_of one.0 ∷ [] } ≡ w = ap (λ (x : List Line). record { at = at; count = 2; lines = x }) one.2 ∙ made.2 in
-      window_goes s f main out lines table at w apt is sound more 2 (line ∷ next ∷ []) (call_of one.0 ∷ []) (ap (take 2) e) (omega arith) (omega (arith, ap length e, length-drop at lines)) same (y.0, (y.1, tt)) (y.2, tt) (y.3 (with_lines s f lines))
+      window_goes f main out lines table at w is sound more 2 (line ∷ next ∷ []) (call_of one.0 ∷ []) (ap (take 2) e) (omega arith) (omega (arith, ap length e, length-drop at lines)) same (y.0, (y.1, tt)) (y.2, tt) (λ s apt. y.3 (with_lines s f lines))
 
-  once : (rule : ℕ) (line : Line) (post : List Line) → drop at lines ≡ line ∷ post → ((next : Line) (r : Routine) → one_routine rule line next ≡ Some r → Stands line next r) → called_once rule table at line post ≡ Some w → IsFollowedBy s f main lines (rewritten lines w)
+  once : (rule : ℕ) (line : Line) (post : List Line) → drop at lines ≡ line ∷ post → ((next : Line) (r : Routine) → one_routine rule line next ≡ Some r → Stands line next r) → called_once rule table at line post ≡ Some w → IsFollowedBy f main out lines (rewritten lines w)
   once rule line [] e stands k = absurd cc
   once rule line (next ∷ post) e stands k = one_goes line next post (one_routine rule line next) (is_settled table (at + 1) next) e (stands next) k
 
-  nothing : (line : Line) (post : List Line) → drop at lines ≡ line ∷ post → undone table at line post ≡ Some w → IsFollowedBy s f main lines (rewritten lines w)
+  nothing : (line : Line) (post : List Line) → drop at lines ≡ line ∷ post → undone table at line post ≡ Some w → IsFollowedBy f main out lines (rewritten lines w)
   nothing line [] e k = absurd cc
   nothing line (next ∷ post) e k =
       let made = placed (nothing_if (is_taken_back line next)) (is_settled table (at + 1) next) 2 at w k in
       let none = nothing_made (is_taken_back line next) made.0 made.1 in
       let y : AreInner (line ∷ next ∷ []) × StandFor [] (line ∷ next ∷ []) = back_goes line next none.0 in
       let same : record { at = at; count = 2; lines = [] } ≡ w = ap (λ (x : List Line). record { at = at; count = 2; lines = x }) none.1 ∙ made.2 in
-      window_goes s f main out lines table at w apt is sound more 2 (line ∷ next ∷ []) [] (ap (take 2) e) (omega arith) (omega (arith, ap length e, length-drop at lines)) same y.0 tt (y.1 (with_lines s f lines))
+      window_goes f main out lines table at w is sound more 2 (line ∷ next ∷ []) [] (ap (take 2) e) (omega arith) (omega (arith, ap length e, length-drop at lines)) same y.0 tt (λ s apt. y.1 (with_lines s f lines))
 
-  four : (line one other last : Line) (post new : List Line) → drop at lines ≡ line ∷ one ∷ other ∷ last ∷ post → record { at = at; count = 4; lines = new } ≡ w → InLine line one other last new → IsFollowedBy s f main lines (rewritten lines w)
+  four : (line one other last : Line) (post new : List Line) → drop at lines ≡ line ∷ one ∷ other ∷ last ∷ post → record { at = at; count = 4; lines = new } ≡ w → InLine line one other last new → IsFollowedBy f main out lines (rewritten lines w)
   four line one other last post new e same k =
       let inner : AreInner (line ∷ one ∷ other ∷ last ∷ []) = (subst (λ (l : Line). IsInner (form_of l)) k.push tt, (k.load.first_inner, (k.load.second_inner, (subst (λ (l : Line). IsInner (form_of l)) k.call tt, tt)))) in
+      window_goes f main out lines table at w is sound more 4 (line ∷ one ∷ other ∷ last ∷ []) new (ap (take 4) e) (omega arith) (omega (arith, ap length e, length-drop at lines)) same inner k.done.inner (λ s apt to after.
       let here : IsSound lines = sound_here s f lines out apt in
       let good = good_at lines at (line ∷ one ∷ other ∷ last ∷ []) here.fit here.bytes inner (has_at lines at (line ∷ one ∷ other ∷ last ∷ []) post e) in
       let low : word_of s.place k.low < 256 = k.load.low_byte s.place good.1.0.fit good.1.0.byte good.1.1.0.fit good.1.1.0.byte in
       let high : word_of s.place k.high < 256 = k.load.high_byte s.place good.1.0.fit good.1.0.byte good.1.1.0.fit good.1.1.0.byte in
-      window_goes s f main out lines table at w apt is sound more 4 (line ∷ one ∷ other ∷ last ∷ []) new (ap (take 4) e) (omega arith) (omega (arith, ap length e, length-drop at lines)) same inner k.done.inner (λ to after.
       subst (λ (l : Line). Justified (with_lines s f lines) to after (λ t. Unit {0}) (l ∷ one ∷ other ∷ last ∷ []) new) k.push (subst (λ (l : Line). Justified (with_lines s f lines) to after (λ t. Unit {0}) (call_of routines.PushAx ∷ one ∷ other ∷ l ∷ []) new) k.call
       (in_line (with_lines s f lines) to after k.op k.done.value one other new (word_of s.place k.low) (word_of s.place k.high) k.done.row (k.load.loads (with_lines s f lines) low high) (k.done.computes (with_lines s f lines) low high))))
 
-  lines_done : (line : Line) (post : List Line) → drop at lines ≡ line ∷ post → done_in_line table at line post ≡ Some w → IsFollowedBy s f main lines (rewritten lines w)
+  lines_done : (line : Line) (post : List Line) → drop at lines ≡ line ∷ post → done_in_line table at line post ≡ Some w → IsFollowedBy f main out lines (rewritten lines w)
   lines_done line (one ∷ other ∷ last ∷ post) e k =
       let made = placed (unstacked line one other last) (is_settled table (at + 3) last) 4 at w k in
       four line one other last post made.0 e made.2 (unstack line one other last made.0 made.1)
   lines_done line _ e k = absurd cc
 
 pub taken_back_followed : RuleIsFollowed 33
-taken_back_followed s f main out literals lines table at w segment apt is m sound more =
-    at_line 33 out literals lines table at w (IsFollowedBy s f main lines (rewritten lines w)) (λ line post e k. nothing s f main out lines table at w apt is sound more line post e k) m
+taken_back_followed f main out literals lines table at w segment is m sound more =
+    at_line 33 out literals lines table at w (IsFollowedBy f main out lines (rewritten lines w)) (λ line post e k. nothing f main out lines table at w is sound more line post e k) m
 
 pub moved_at_once_followed : RuleIsFollowed 34
-moved_at_once_followed s f main out literals lines table at w segment apt is m sound more =
-    at_line 34 out literals lines table at w (IsFollowedBy s f main lines (rewritten lines w)) (λ line post e k. once s f main out lines table at w apt is sound more 34 line post e (λ next r h. move_stands line next r h) k) m
+moved_at_once_followed f main out literals lines table at w segment is m sound more =
+    at_line 34 out literals lines table at w (IsFollowedBy f main out lines (rewritten lines w)) (λ line post e k. once f main out lines table at w is sound more 34 line post e (λ next r h. move_stands line next r h) k) m
 
 pub moved_by_byte_followed : RuleIsFollowed 35
-moved_by_byte_followed s f main out literals lines table at w segment apt is m sound more =
-    at_line 35 out literals lines table at w (IsFollowedBy s f main lines (rewritten lines w)) (λ line post e k. once s f main out lines table at w apt is sound more 35 line post e (λ next r h. byte_stands line next r h) k) m
+moved_by_byte_followed f main out literals lines table at w segment is m sound more =
+    at_line 35 out literals lines table at w (IsFollowedBy f main out lines (rewritten lines w)) (λ line post e k. once f main out lines table at w is sound more 35 line post e (λ next r h. byte_stands line next r h) k) m
 
 pub zero_pushed_followed : RuleIsFollowed 36
-zero_pushed_followed s f main out literals lines table at w segment apt is m sound more =
-    at_line 36 out literals lines table at w (IsFollowedBy s f main lines (rewritten lines w)) (λ line post e k. once s f main out lines table at w apt is sound more 36 line post e (λ next r h. zero_stands line next r h) k) m
+zero_pushed_followed f main out literals lines table at w segment is m sound more =
+    at_line 36 out literals lines table at w (IsFollowedBy f main out lines (rewritten lines w)) (λ line post e k. once f main out lines table at w is sound more 36 line post e (λ next r h. zero_stands line next r h) k) m
 
 pub word_at_sp_followed : RuleIsFollowed 37
-word_at_sp_followed s f main out literals lines table at w segment apt is m sound more =
-    at_line 37 out literals lines table at w (IsFollowedBy s f main lines (rewritten lines w)) (λ line post e k. once s f main out lines table at w apt is sound more 37 line post e (λ next r h. word_stands line next r h) k) m
+word_at_sp_followed f main out literals lines table at w segment is m sound more =
+    at_line 37 out literals lines table at w (IsFollowedBy f main out lines (rewritten lines w)) (λ line post e k. once f main out lines table at w is sound more 37 line post e (λ next r h. word_stands line next r h) k) m
 
 pub in_line_followed : RuleIsFollowed 38
-in_line_followed s f main out literals lines table at w segment apt is m sound more =
-    at_line 38 out literals lines table at w (IsFollowedBy s f main lines (rewritten lines w)) (λ line post e k. lines_done s f main out lines table at w apt is sound more line post e k) m
+in_line_followed f main out literals lines table at w segment is m sound more =
+    at_line 38 out literals lines table at w (IsFollowedBy f main out lines (rewritten lines w)) (λ line post e k. lines_done f main out lines table at w is sound more line post e k) m

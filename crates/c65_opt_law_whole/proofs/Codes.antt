@@ -1,5 +1,5 @@
 -- What the optimiser makes of the functions of a code.
-use Rattle.std.proofs.Common.{◌≡◌, ℕ, suc, ◌≤◌, ◌==◌, ◌&&◌, ◌||◌, not, Bool, true, false, if◌then◌else◌, List, [], ◌∷◌, length, Option, Some, None, refl, sym, subst, ap, ◌∙◌, arith}
+use Rattle.std.proofs.Common.{◌≡◌, ℕ, ◌≤◌, ◌==◌, ◌&&◌, ◌||◌, not, Bool, true, false, if◌then◌else◌, List, [], ◌∷◌, length, Option, None, refl, sym, subst, ap, ◌∙◌, arith}
 use Rattle.std.specs.Prelude.{slice_get, nat_lt, is_some}
 use Rattle.std.proofs.Math.Path.{fun_ext}
 use Rattle.c65_base.specs.declared.library.Library.{Library}
@@ -11,16 +11,16 @@ use Rattle.c65_code.specs.declared.line.Line.{Line}
 use Rattle.c65_code.specs.declared.line.Sym.{Sym}
 use Rattle.c65_code.specs.declared.parts.RegSet.{RegSet}
 use Rattle.c65_code.specs.Literals.{literals_of}
-use Rattle.c65_code.specs.Placement.{Placement, Setting, setting_of, IsPlacement, segment_of, is_nothing, has_segment, has_datum, is_function_of, library_of}
-use Rattle.c65_code.specs.Segments.{Segment, IsSegment}
+use Rattle.c65_code.specs.Placement.{Placement, Setting, setting_of, segment_of, is_nothing, has_segment, has_datum, is_function_of, library_of}
+use Rattle.c65_code.specs.Segments.{Segment}
 use Rattle.c65_optimise.specs.Optimised.{IsRewritten, AreRewritten, IsOptimised}
-use Rattle.c65_opt_law_chains.specs.Laws.{FollowsUntilEnd}
-use Rattle.c65_opt_law_follow.specs.Laws.{AreByteLines, IsSound, IsApt}
-use Rattle.c65_opt_law_whole.specs.Laws.{IsSoundCode, CallsServe, IsFollowedAt}
-use Rattle.c65_opt_law_whole.proofs.Functions.{AreRulesGood, function_made}
+use Rattle.c65_opt_law_chains.specs.Laws.{FollowsUntilEnd, FollowsUntilEndEverywhere}
+use Rattle.c65_opt_law_follow.specs.Laws.{IsSound}
+use Rattle.c65_opt_law_whole.specs.Laws.{IsMadeOf, HasConstantLiterals, CallsServe}
+use Rattle.c65_opt_law_whole.proofs.Functions.{AreRulesGood, byte_lines, function_made}
 use Rattle.c65_opt_law_whole.proofs.Made.{has_line}
-use Rattle.c65_opt_law_whole.proofs.Mixed.{mixed, with_own, IsMixed, IsMadeAnywhere, all_mixed}
-use Rattle.c65_opt_law_whole.proofs.Placed.{open_at}
+use Rattle.c65_opt_law_whole.proofs.Mixed.{mixed, lines_in, gives_in, IsMixed, all_mixed}
+use Rattle.c65_opt_law_whole.proofs.Placed.{open_at, literals_stand}
 
 -- ---- functions by their names
 
@@ -63,14 +63,6 @@ something : (lines : List Line) → 1 ≤ length lines → is_nothing lines ≡ 
 something [] h = absurd (omega (arith, h))
 something (line ∷ lines) h = refl
 
-pub segment_in : (fs : List (Sym × Segment)) (P : Segment → Type 0) → ((i : ℕ) (g : Sym × Segment) → slice_get fs i ≡ Some g → P g.1) → (n : ℕ) → has_segment fs n ≡ true → P (segment_of fs n)
-segment_in [] P all n h = absurd (let e : false ≡ true = h in cc)
-segment_in (f ∷ fs) P all n h = pick (f.0.0 == n) (λ k. segment_in fs P (λ i g is. all (suc i) g is) n k) h
-  where
-    pick : (b : Bool) → (has_segment fs n ≡ true → P (segment_of fs n)) → (if b then true else has_segment fs n) ≡ true → P (if b then f.1 else segment_of fs n)
-    pick true later h = all 0 f refl
-    pick false later h = later h
-
 pub segment_none : (fs : List (Sym × Segment)) (n : ℕ) → has_segment fs n ≡ false → (segment_of fs n).lines ≡ []
 segment_none [] n h = refl
 segment_none (f ∷ fs) n h = pick (f.0.0 == n) (λ k. segment_none fs n k) h
@@ -97,36 +89,26 @@ setting_same lines lines2 gives gives2 is is2 library library2 place a b c d =
 
 -- ---- the code with the new functions
 
-module _ (options : Options) (rules : AreRulesGood options) (old new : Code) (main : ℕ) (place : Placement) (sound : IsSoundCode old) (o : IsOptimised options old new)
-    (p : IsPlacement old place) (calls : CallsServe options place (literals_of old.symbols old.datums)) where
-  segment_here : (n : ℕ) → has_segment old.functions n ≡ true → IsSegment (segment_of old.functions n).lines
-  segment_here n h = segment_in old.functions (λ (g : Segment). IsSegment g.lines) sound.segment n h
-
-  bytes_here : (n : ℕ) → has_segment old.functions n ≡ true → AreByteLines (segment_of old.functions n).lines
-  bytes_here n h = segment_in old.functions (λ (g : Segment). AreByteLines g.lines) sound.bytes n h
+module _ (options : Options) (rules : AreRulesGood options) (old new : Code) (main : ℕ) (literals : HasConstantLiterals old) (o : IsOptimised options old new)
+    (calls : CallsServe options (literals_of old.symbols old.datums)) where
+  rewritten_here : (n : ℕ) → has_segment old.functions n ≡ true → IsRewritten options (literals_of old.symbols old.datums) (segment_of old.functions n) (segment_of new.functions n)
+  rewritten_here n h = rewritten_at options (literals_of old.symbols old.datums) old.functions new.functions o.functions n h
 
   sound_lines : (n : ℕ) → IsSound (segment_of old.functions n).lines
   sound_lines n = by_test (IsSound (segment_of old.functions n).lines) (has_segment old.functions n)
-      (λ h. record { fit = (segment_here n h).fit; bytes = bytes_here n h })
+      (λ h. record { fit = (rewritten_here n h).segment.fit; bytes = byte_lines (segment_of old.functions n).lines (rewritten_here n h).bytes })
       (λ h. subst IsSound (sym (segment_none old.functions n h)) (record { fit = refl; bytes = tt }))
 
-  made_here : (n : ℕ) → has_segment old.functions n ≡ true → IsMadeAnywhere (setting_of old place) main n (segment_of new.functions n).lines
-  made_here n h = record {
-    made = λ t same apt.
-        function_made options rules place t n main (segment_of old.functions n).out same (literals_of old.symbols old.datums) calls (segment_of old.functions n) (segment_of new.functions n) refl (segment_here n h) apt
-        (rewritten_at options (literals_of old.symbols old.datums) old.functions new.functions o.functions n h);
-  }
+  made_here : (n : ℕ) → has_segment old.functions n ≡ true → IsMadeOf (literals_of old.symbols old.datums) n main (gives_in old n) (lines_in old n) (lines_in new n)
+  made_here n h =
+      function_made options rules (literals_of old.symbols old.datums) n main (segment_of old.functions n).out calls (segment_of old.functions n) (segment_of new.functions n) refl (rewritten_here n h)
 
-  whole : IsMixed (setting_of old place) main (λ n. (segment_of new.functions n).lines) old.functions
-  whole = all_mixed rules.composes (setting_of old place) main (λ n. (segment_of new.functions n).lines) (open_at old place p) sound_lines old.functions made_here
+  whole : IsMixed (literals_of old.symbols old.datums) old main (lines_in new) old.functions
+  whole = all_mixed rules.composes (literals_of old.symbols old.datums) old main (lines_in new) sound_lines old.functions made_here
 
   -- a function that has lines has some in the new code too
   some_new : (n : ℕ) → has_segment old.functions n ≡ true → is_nothing (segment_of new.functions n).lines ≡ false
-  some_new n h =
-      let free = open_at old place p in
-      let apt : IsApt n (segment_of old.functions n).out (setting_of old place) = record { gives = refl; low = free.low; own = free.own; sound = sound_lines } in
-      let made = (made_here n h).made (setting_of old place) refl (subst (IsApt n (segment_of old.functions n).out) (sym (with_own (setting_of old place) n)) apt) in
-      something (segment_of new.functions n).lines (has_line (segment_of new.functions n).lines made.segment.closed)
+  some_new n h = something (segment_of new.functions n).lines (has_line (segment_of new.functions n).lines (made_here n h).segment.closed)
 
   none_same : (n : ℕ) → has_segment old.functions n ≡ false → segment_of old.functions n ≡ segment_of new.functions n
   none_same n h = same_none options (literals_of old.symbols old.datums) old.functions new.functions o.functions n h
@@ -145,7 +127,7 @@ module _ (options : Options) (rules : AreRulesGood options) (old new : Code) (ma
 
   empty_same : (n : ℕ) → is_nothing (segment_of old.functions n).lines ≡ is_nothing (segment_of new.functions n).lines
   empty_same n = by_test (is_nothing (segment_of old.functions n).lines ≡ is_nothing (segment_of new.functions n).lines) (has_segment old.functions n)
-      (λ h. something (segment_of old.functions n).lines (has_line (segment_of old.functions n).lines (segment_here n h).closed) ∙ sym (some_new n h))
+      (λ h. something (segment_of old.functions n).lines (has_line (segment_of old.functions n).lines (rewritten_here n h).segment.closed) ∙ sym (some_new n h))
       (λ h. ap (λ (g : Segment). is_nothing g.lines) (none_same n h))
 
   function_same : (n : ℕ) → is_function_of old n ≡ is_function_of (record { symbols = old.symbols; functions = new.functions; datums = old.datums; main_args = old.main_args }) n
@@ -165,15 +147,15 @@ module _ (options : Options) (rules : AreRulesGood options) (old new : Code) (ma
       ap (λ (b : Bool). if b && is_nothing (segment_of old.functions n).lines then library_of (slice_get old.symbols n) else None) (function_same n)
       ∙ ap (λ (b : Bool). if is_function_of (record { symbols = old.symbols; functions = new.functions; datums = old.datums; main_args = old.main_args }) n && b then library_of (slice_get old.symbols n) else None) (empty_same n)
 
-  all_same : mixed (setting_of old place) (λ n. (segment_of new.functions n).lines) old.functions ≡ setting_of new place
+  all_same : (place : Placement) → mixed (setting_of old place) (lines_in new) old.functions ≡ setting_of new place
   unfolding mixed
-  all_same =
+  all_same place =
       setting_same _ _ _ _ _ _ _ _ place (fun_ext lines_same) (fun_ext gives_same) (fun_ext function_same) (fun_ext library_same)
       ∙ ap (λ (c : Code). setting_of c place) code_same
 
-  pub code_followed : IsFollowedAt old new main place
+  pub code_followed : FollowsUntilEndEverywhere old new main
   code_followed = record {
     map = whole.map;
     more = whole.more;
-    follows = subst (λ (t : Setting). FollowsUntilEnd whole.map whole.more (setting_of old place) t main) all_same whole.follows;
+    at = λ place p. subst (λ (t : Setting). FollowsUntilEnd whole.map whole.more (setting_of old place) t main) (all_same place) (whole.follows place (open_at old place p) (literals_stand old place literals p));
   }

@@ -22,12 +22,16 @@ same_place f = fun_ext (λ g. fun_ext (λ p. pick (g == f) p))
     pick true p = refl
     pick false p = refl
 
-pub followed_itself : (s : Setting) (f main : ℕ) (lines : List Line) → IsFollowedUntilEnd s f main lines lines
-followed_itself s f main lines = record {
+pub followed_itself : (kind : Setting → Type 0) (f main : ℕ) (lines : List Line) → IsFollowedUntilEnd kind f main lines lines
+followed_itself kind f main lines = record {
   map = λ p. p;
   more = 0;
-  follows = subst (λ (m : ℕ → ℕ → ℕ). FollowsUntilEnd m 0 (with_lines s f lines) (with_lines s f lines) main) (sym (same_place f)) (itself (with_lines s f lines) main);
+  follows = λ s is. subst (λ (m : ℕ → ℕ → ℕ). FollowsUntilEnd m 0 (with_lines s f lines) (with_lines s f lines) main) (sym (same_place f)) (itself (with_lines s f lines) main);
 }
+
+-- what is followed in more codes
+pub followed_in : (kind other : Setting → Type 0) → ((s : Setting) → other s → kind s) → (f main : ℕ) (old new : List Line) → IsFollowedUntilEnd kind f main old new → IsFollowedUntilEnd other f main old new
+followed_in kind other is f main old new h = record { map = h.map; more = h.more; follows = λ s k. h.follows s (is s k) }
 
 -- two maps of one function
 both_places : (f : ℕ) (first second : ℕ → ℕ) → mapped_in f (λ p. second (first p)) ≡ (λ g p. mapped_in f second g (mapped_in f first g p))
@@ -37,10 +41,10 @@ both_places f first second = fun_ext (λ g. fun_ext (λ p. pick (g == f) p))
     pick true p = refl
     pick false p = refl
 
-pub followed_on : FollowingUntilEndComposes → (s : Setting) (f main : ℕ) (old lines new : List Line) → IsFollowedUntilEnd s f main old lines → IsFollowedUntilEnd s f main lines new → IsFollowedUntilEnd s f main old new
-followed_on composes s f main old lines new h k = record {
+pub followed_on : FollowingUntilEndComposes → (kind : Setting → Type 0) (f main : ℕ) (old lines new : List Line) → IsFollowedUntilEnd kind f main old lines → IsFollowedUntilEnd kind f main lines new → IsFollowedUntilEnd kind f main old new
+followed_on composes kind f main old lines new h k = record {
   map = λ p. k.map (h.map p);
   more = h.more + k.more;
-  follows = subst (λ (m : ℕ → ℕ → ℕ). FollowsUntilEnd m (h.more + k.more) (with_lines s f old) (with_lines s f new) main) (sym (both_places f h.map k.map))
-      (composes (mapped_in f h.map) (mapped_in f k.map) h.more k.more (with_lines s f old) (with_lines s f lines) (with_lines s f new) main h.follows k.follows);
+  follows = λ s is. subst (λ (m : ℕ → ℕ → ℕ). FollowsUntilEnd m (h.more + k.more) (with_lines s f old) (with_lines s f new) main) (sym (both_places f h.map k.map))
+      (composes (mapped_in f h.map) (mapped_in f k.map) h.more k.more (with_lines s f old) (with_lines s f lines) (with_lines s f new) main (h.follows s is) (k.follows s is));
 }

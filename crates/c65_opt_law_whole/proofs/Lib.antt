@@ -10,4 +10,5 @@ mod Calls
 mod Ranges
 mod Kept
 mod Names
+mod Closed
 mod Serves

@@ -1,5 +1,5 @@
 // Laws of the whole optimiser, each the contract of a function that does nothing.
-ghost use Rattle.c65_opt_law_whole.specs.Laws.{OptimisedIsFollowed, OptimisedNamesNothing, RewritesAreFollowed, WalksAreFollowed};
+ghost use Rattle.c65_opt_law_whole.specs.Laws.{OptimisedIsClosed, OptimisedIsFollowed, OptimisedKeepsFunctions, OptimisedNamesNothing, RewritesAreFollowed, WalksAreFollowed};
 
 use c65_live_law::live_tables_exist;
 use c65_opt_law_c02::processor_lines_are_followed;
@@ -44,4 +44,10 @@ pub fn optimised_is_followed()
 /// It names nothing that the code does not name.
 pub fn optimised_names_nothing()
     ensures { OptimisedNamesNothing }
+{}
+
+/// Where the code is closed, it is closed: each function that has lines there has some.
+pub fn optimised_is_closed()
+    ensures functions { OptimisedKeepsFunctions }
+    ensures closed { OptimisedIsClosed }
 {}

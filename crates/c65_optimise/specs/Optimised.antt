@@ -1,13 +1,16 @@
 -- What the optimiser makes of a code: each function by itself, its lines by rewritings, until no rule matches anywhere in it.
-use Rattle.std.specs.Prelude.{◌≡◌, ◌==◌, if◌then◌else◌, ⊤, ℕ, ◌≤◌, Bool, true, false, All, List, [], ◌∷◌}
+use Rattle.std.specs.Prelude.{◌≡◌, ◌==◌, if◌then◌else◌, ⊤, ℕ, ◌≤◌, ◌<◌, Bool, true, false, All, List, [], ◌∷◌}
 use Rattle.c65_base.specs.declared.options.Cpu.{Cpu}
 use Rattle.c65_base.specs.declared.options.Cpu.TheVariants.{Nmos}
 use Rattle.c65_base.specs.declared.options.Options.{Options}
 use Rattle.c65_code.specs.declared.line.Line.{Line}
+use Rattle.c65_code.specs.declared.line.Line.TheVariants.{Do}
+use Rattle.c65_code.specs.declared.line.Operand.{Operand}
+use Rattle.c65_code.specs.declared.line.Operand.TheVariants.{Byte}
 use Rattle.c65_code.specs.declared.line.Sym.{Sym}
 use Rattle.c65_code.specs.declared.code.Code.{Code}
 use Rattle.c65_code.specs.Literals.{literals_of}
-use Rattle.c65_code.specs.Segments.{Segment}
+use Rattle.c65_code.specs.Segments.{Segment, IsSegment}
 use Rattle.c65_code.specs.Weights.{lines_size}
 use Rattle.c65_code.specs.Writable.{IsLineWritable}
 use Rattle.c65_know.specs.Known.{annotated}
@@ -41,11 +44,23 @@ IsFor cpu family = ⊤
 abbrev pub IsRuleFor : Cpu → ℕ → Type 0
 IsRuleFor cpu rule = (family : Family) × IsFor cpu family × rules_of family rule
 
+-- the number in a line is a byte
+abbrev pub IsByteOperand : Operand → Type 0
+IsByteOperand (Byte v) = v < 256
+IsByteOperand _ = ⊤
+
+abbrev pub HasByte : Line → Type 0
+HasByte (Do op mode operand) = IsByteOperand operand
+HasByte _ = ⊤
+
+-- The old lines are those of a function that there is: a segment, in which numbers are bytes.
 -- First calls are opened, in one walk for calls of routines, where that is asked for, and in another for calls of functions of the
 -- library. From what stands then the new lines come by rewritings of the rules that are run, each where its rule matches, and none
 -- matches in them. They are no longer in bytes, where a call that may be opened counts as its lines, and can be written where the old
 -- ones can.
 pub record IsRewritten (options : Options) (literals : List (Sym × List ℕ)) (old new : Segment) : Type 0 where
+  pub segment : IsSegment old.lines
+  pub bytes : All HasByte old.lines
   pub out : new.out ≡ old.out
   pub opened : List Line
   pub once : (count : ℕ) × BothWalks options.inline_more options.known_functions literals old.out old.lines opened count

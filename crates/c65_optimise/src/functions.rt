@@ -1,14 +1,42 @@
 // The rules over each function of a code.
-ghost use Rattle.std.specs.Prelude.{◌≡◌, IfOk, IfErr};
+ghost use Rattle.std.specs.Prelude.{◌≡◌, All, IfOk, IfErr};
 ghost use Rattle.c65_base.specs.declared.refusal.Refusal.TheVariants.{OutOfMemory};
-ghost use Rattle.c65_optimise.specs.Optimised.{IsRewritten, AreRewritten, OptimisedBy};
+ghost use Rattle.c65_optimise.specs.Optimised.{IsByteOperand, HasByte, IsRewritten, AreRewritten, OptimisedBy};
 
 use crate::families::rewrite;
 use c65_base::{Options, Refusal};
-use c65_code::{Code, Items, Literals, Seg, Sym, literals};
+use c65_code::{Code, Items, Line, Literals, Operand, Seg, Sym, literals};
 use c65_know::{Noted, annotate};
 use c65_optlib::inline_calls;
 use std::alloc::Global;
+
+fn is_byte(operand: Operand)
+    ensures { IsByteOperand operand }
+{
+    match operand {
+        Operand::Byte(_) => {}
+        Operand::Nothing | Operand::Low(_, _) | Operand::High(_, _) => {}
+        Operand::Zero(_) | Operand::At(_, _) | Operand::To(_) => {}
+    }
+}
+
+fn has_byte(line: Line)
+    ensures { HasByte line }
+{
+    match line {
+        Line::Do(_, _, operand) => is_byte(operand),
+        Line::Label(_) | Line::Call(_) => {}
+    }
+}
+
+/// The numbers in lines are bytes, as in all lines that there are.
+fn have_bytes(lines: &[Line])
+    ensures { All HasByte lines.now }
+{
+    for line in lines {
+        has_byte(*line);
+    }
+}
 
 /// The lines of a function, rewritten.
 fn optimised(
@@ -20,6 +48,7 @@ fn optimised(
     ensures rewritten { IfOk result (IsRewritten options.now literals.now.items seg) }
     ensures refused { IfErr result (λ refusal. refusal ≡ OutOfMemory) }
 {
+    have_bytes(seg.lines());
     let mut noted = annotate(alloc, seg)?;
     inline_calls(alloc, &mut noted, literals, options)?;
     rewrite(alloc, &mut noted, options)?;

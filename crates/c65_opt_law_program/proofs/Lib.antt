@@ -1,0 +1,3 @@
+mod Symbols
+mod Data
+mod Literals
