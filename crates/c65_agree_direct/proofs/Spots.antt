@@ -16,7 +16,7 @@ use Rattle.c65_genframe.specs.Symbols.{numbers_of, literal_symbol, object_symbol
 use Rattle.c65_genload.specs.declared.places.Place.{Place}
 use Rattle.c65_genload.specs.declared.places.Place.TheVariants.{Bank, Near, Data, Far}
 use Rattle.c65_genexpr.specs.Places.{more, soft_place, place_at, object_place, moved}
-use Rattle.c65_agree_store.specs.Stands.{Spot, At, Banked, Placing, Banks, IsAt, LiesIn, beyond}
+use Rattle.c65_agree_store.specs.Stands.{Spot, At, Banked, Placing, Banks, Grows, IsAt, LiesIn, beyond}
 use Rattle.c65_agree_state.specs.World.{World, unit_in, Active}
 use Rattle.c65_agree_state.specs.Fixed.{symbol_at}
 use Rattle.c65_agree_state.specs.Joins.{Joins, home_spot}
@@ -196,3 +196,31 @@ module _ (g : World) (a : Active) (c : Scene) (w : Placing) (k : Banks) (t : Sta
       go false near e f = absurd f
   part_lies (Data sm at) known h = data_part sm at h
   part_lies (Far at) known h = absurd known
+
+-- ---- behind other lines
+
+-- what lies there lies there in a later state with the same scene, where blocks only gained places
+module _ (g : World) (a : Active) (pushed needs more_needs : ℕ) (c : Scene) (w w2 : Placing) (k k2 : Banks) (t u : State) (r : Ready g a pushed needs c w k t) (r2 : Ready g a pushed more_needs c w2 k2 u) (grows : Grows w w2) where
+  same_spot : (place : Place) → IsKnown place → spot_in g a t place ≡ spot_in g a u place
+  same_spot (Bank at) known = refl
+  same_spot (Near at) known = let same : sp_of t + at ≡ sp_of u + at = omega (arith, r.sp, r2.sp) in ap At same
+  same_spot (Data s at) known = refl
+  same_spot (Far at) known = absurd known
+
+  same_symbol : (place : Place) (b o : ℕ) → IsAtSymbol g w place b o → IsAtSymbol g w2 place b o
+  same_symbol (Bank at) b o h = tt
+  same_symbol (Near at) b o h = tt
+  same_symbol (Data s at) b o h = (h.0, grows b (At h.0) h.1, h.2)
+  same_symbol (Far at) b o h = tt
+
+  pub lies_later : (place : Place) (b o : ℕ) → IsKnown place → LiesThere g a c w t place b o → LiesThere g a c w2 u place b o
+  lies_later place b o known lies = record { meant = λ x q at. meant x q at; symbol = same_symbol place b o lies.symbol; told = lies.told }
+    where
+      meant : (x : Block) (q : Spot) → IsAt c.store w2 b x q → IsReached a q × (spot_in g a u place ≡ beyond q o)
+      meant x q at =
+          let before = r.joins.stands.placed b x at.is at.live in
+          let one : Some q ≡ Some before.0 = sym at.place ∙ grows b before.0 before.1 in
+          let same : q ≡ before.0 = cc in
+          let first : IsAt c.store w b x q = record { is = at.is; live = at.live; place = before.1 ∙ ap Some (sym same) } in
+          let there = lies.meant x q first in
+          (there.0, sym (same_spot place known) ∙ there.1)

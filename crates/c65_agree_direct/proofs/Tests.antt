@@ -44,7 +44,7 @@ use Rattle.c65_agree_step.proofs.Ways.{weaken, branches_go}
 use Rattle.c65_agree_state.specs.World.{World, program_in, setting_in, Active, lines_of, place_in, HasAt, HasTurns}
 use Rattle.c65_agree_state.specs.Follows.{Agrees, Follows}
 use Rattle.c65_agree_state.specs.Exprs.{Ready, Kept as Keeps, Valued, MayFit, Tells as TruthTells, RestOfTest, width_in, shape_in}
-use Rattle.c65_agree_state.proofs.Followed.{follows_weaken, arrivals_count, ready_is_calm}
+use Rattle.c65_agree_state.proofs.Followed.{follows_weaken, branches_count, ready_is_calm}
 use Rattle.c65_agree_state.proofs.Nodes.{has_front, has_back}
 use Rattle.c65_agree_put.specs.Laws.{IsScalar}
 use Rattle.c65_agree_assign.specs.Places.{kind_in}
@@ -292,7 +292,7 @@ module _ (g : World) (a : Active) (pushed needs to : ℕ) (s : Bool) (c : Scene)
         branch_goes g j (weight + 2600) (Running k (v ∷ vs) c) a.symbol (p + length front) to u later (behind_test s) goes at refl
         (subst (λ q. Follows g j (weight + 2600) (Running k (v ∷ vs) c) (place_in g a (if goes then labelled (lines_of g a) to else q)) u (seen_at (place_in g a (if goes then labelled (lines_of g a) to else q)) later)) (sym ends)
         (rest j v goes c w b u (seen_at (place_in g a (if goes then labelled (lines_of g a) to else p + length lines)) later) lt kept_there (may_fit shape v fit) told
-        (arrivals_count g c.turns (place_in g a (if goes then labelled (lines_of g a) to else p + length lines)) later (omega (arith, turned)))))
+        (branches_count g goes c.turns (place_in g a (if goes then labelled (lines_of g a) to else p + length lines)) later (omega (arith, turned)))))
 
   tested : (n : ℕ) → j < n → HasAt (lines_of g a) p lines → RestOfTest g a shape s to n weight k vs (p + length lines) c w b t → Follows g j (weight + 4000) (Running k (v ∷ vs) c) (place_in g a p) t seen
   tested n lt has rest =
@@ -308,5 +308,5 @@ direct_loads_are_tested g a pushed needs to s t e place kind placed frame typed 
     let h = load_kind g a pushed placed frame t e place kind typed is in
     let same : zero_test_code (own_bytes (Kept place kind) (extent_of kind)) s to ≡ zero_test_code (own_bytes (Kept place (kind_in shape)) (extent_of (kind_in shape))) s to = ap (λ x. zero_test_code (own_bytes (Kept place x) (extent_of x)) s to) h.same in
     trees_are_read g a pushed placed frame (node t (load e)) (Kept place kind) typed is needs n weight k vs c w b (place_in g a p) state seen r turns (λ j v lt fit told.
-    tested g a pushed needs to s c w b state placed r place shape v h.scalar h.known fit (subst (λ x. IsKept g a c w state (width_in shape) place x v) h.same told) j weight p k vs seen turns n lt (subst (HasAt (lines_of g a) p) same has)
+    tested g a pushed needs to s c w b state placed r place shape v h.scalar h.known fit (subst (λ x. IsKept g a c w state (width_in shape) place x v) h.same (told needs w b state (λ m q same. same) r)) j weight p k vs seen turns n lt (subst (HasAt (lines_of g a) p) same has)
     (subst (λ ls. RestOfTest g a shape s to n weight k vs (p + length ls) c w b state) same rest))

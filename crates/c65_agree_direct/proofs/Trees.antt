@@ -25,6 +25,7 @@ use Rattle.c65_code.specs.declared.line.Sym.{Sym}
 use Rattle.c65_code.specs.LineState.{Place as Spot, State}
 use Rattle.c65_code.specs.Placement.{IsPlacement, located}
 use Rattle.c65_code.specs.Comes.{Seen}
+use Rattle.c65_code.specs.declared.routine.Width.{Width}
 use Rattle.c65_code.specs.declared.routine.Width.TheVariants.{Ax}
 use Rattle.c65_genframe.specs.Frames.{Framed}
 use Rattle.c65_genframe.specs.Symbols.{numbers_of, function_symbol}
@@ -39,24 +40,28 @@ use Rattle.c65_genexpr.specs.Operands.{residue_of}
 use Rattle.c65_genexpr.specs.Types.{kind_of, bare, access_of, field_or, bits_in}
 use Rattle.c65_genexpr.specs.Places.{place_of, is_plain}
 use Rattle.c65_genexpr.specs.Direct.{kept_at, address_at, address_of, takes_bytes, converted_if, direct_of}
-use Rattle.c65_agree_store.specs.Stands.{At, Placing, Banks, LiesIn}
+use Rattle.c65_agree_store.specs.Stands.{At, Placing, Banks, LiesIn, Grows}
 use Rattle.c65_agree_state.specs.World.{World, unit_in, Active, HasTurns}
 use Rattle.c65_agree_state.specs.Follows.{Follows}
 use Rattle.c65_agree_state.specs.Exprs.{Ready, width_in, shape_in}
 use Rattle.c65_agree_rows.proofs.Quiet.{nothing_follows}
 use Rattle.c65_agree_put.specs.Laws.{IsScalar}
 use Rattle.c65_agree_assign.specs.Places.{kind_in}
-use Rattle.c65_agree_direct.specs.Laws.{IsFrameOf, DirectTreesAreRead}
-use Rattle.c65_agree_direct.proofs.Spots.{mapped_below, IsKnown, LiesThere, live_block}
+use Rattle.c65_agree_direct.specs.Laws.{IsFrameOf, DirectTreesAreRead, DirectTreesAreReadOn}
+use Rattle.c65_agree_direct.proofs.Spots.{mapped_below, IsKnown, LiesThere, live_block, lies_later}
 use Rattle.c65_agree_direct.proofs.Places.{step_goes, behind_goes, PlaceIsRead, places_are_read}
 use Rattle.c65_agree_direct.proofs.Values.{IsAddress, IsToldBy, has_bytes, is_converted}
 use Rattle.c65_agree_direct.proofs.Loads.{is_kept, loaded_fits}
+
+-- what is told of a value in each later state with the same scene
+abbrev pub IsToldOn : World → Active → ℕ → Scene → Placing → Width → Direct → Value → Type 0
+IsToldOn g a pushed c w width d v = (more_needs : ℕ) (w2 : Placing) (b2 : Banks) (u : State) → Grows w w2 → Ready g a pushed more_needs c w2 b2 u → IsToldBy g a c w2 u width d v
 
 -- the work of a tree, as the law has it, with what is told of its value
 abbrev pub IsRead : World → Active → ℕ → Shape → (List Item → List Item) → Direct → Type 0
 IsRead g a pushed f work d = (needs n weight : ℕ) (k : List Item) (vs : List Value) (c : Scene) (w : Placing) (b : Banks) (p : Spot) (t : State) (seen : Seen)
     → Ready g a pushed needs c w b t → HasTurns g c.turns p seen
-    → ((j : ℕ) (v : Value) → j < n → Fits f v → IsToldBy g a c w t (width_in f) d v → Follows g j (weight + 4000) (Running k (v ∷ vs) c) p t seen)
+    → ((j : ℕ) (v : Value) → j < n → Fits f v → IsToldOn g a pushed c w (width_in f) d v → Follows g j (weight + 4000) (Running k (v ∷ vs) c) p t seen)
     → Follows g n weight (Running (work k) vs c) p t seen
 
 -- ---- what is kept at a place
@@ -202,19 +207,19 @@ no_address d e = cc
 
 module _ (g : World) (a : Active) (pushed : ℕ) (placed : IsPlacement g.code g.place) (frame : IsFrameOf g a) where
   constant_read : (kind : IntType) (z : ℤ) → InRange kind z → IsRead g a pushed (Number kind) (λ k. Push (Whole z) ∷ k) (directs.Number (residue_of z))
-  constant_read kind z range needs n weight k vs c w b p t seen r turns later = step_goes g a pushed needs n weight (Push (Whole z)) k vs c w b p t seen r turns (λ j lt. later j (Whole z) lt range refl)
+  constant_read kind z range needs n weight k vs c w b p t seen r turns later = step_goes g a pushed needs n weight (Push (Whole z)) k vs c w b p t seen r turns (λ j lt. later j (Whole z) lt range (λ m w2 b2 u grows r2. refl))
 
   null_read : (size : ℕ) → IsRead g a pushed (Pointer size) (λ k. Push Null ∷ k) (directs.Number 0)
-  null_read size needs n weight k vs c w b p t seen r turns later = step_goes g a pushed needs n weight (Push Null) k vs c w b p t seen r turns (λ j lt. later j Null lt tt refl)
+  null_read size needs n weight k vs c w b p t seen r turns later = step_goes g a pushed needs n weight (Push Null) k vs c w b p t seen r turns (λ j lt. later j Null lt tt (λ m w2 b2 u grows r2. refl))
 
-  load_read : (f : Shape) (work : List Item → List Item) (place : Place) → IsScalar f → PlaceIsRead g a pushed work place → IsRead g a pushed f (λ k. work (Fetch f ∷ k)) (directs.Kept place (kind_in f))
-  load_read f work place scalar whole needs n weight k vs c w b p t seen r turns later =
+  load_read : (f : Shape) (work : List Item → List Item) (place : Place) → IsScalar f → IsKnown place → PlaceIsRead g a pushed work place → IsRead g a pushed f (λ k. work (Fetch f ∷ k)) (directs.Kept place (kind_in f))
+  load_read f work place scalar known whole needs n weight k vs c w b p t seen r turns later =
       whole needs n weight (Fetch f ∷ k) vs c w b p t seen r turns (λ j m o lt lies.
       behind_goes g a pushed needs j weight (Fetch f) k (values.Place m o ∷ vs) c w b p t seen r turns (λ i less. go i (omega (arith, lt, less)) m o lies (read f c.store m o) refl))
     where
       go : (i : ℕ) → i < n → (m o : ℕ) → LiesThere g a c w t place m o → (s : Result Value Why) → read f c.store m o ≡ s → Follows g i (weight + 4000) (go_on s k vs c) p t seen
       go i lt m o lies (Err why) e = nothing_follows g why i (weight + 4000) p t seen
-      go i lt m o lies (Ok v) e = later i v lt (loaded_fits g a pushed needs place f c w b t m o placed r scalar lies v e) (is_kept g a pushed needs place f c w b t m o placed r scalar lies v e)
+      go i lt m o lies (Ok v) e = later i v lt (loaded_fits g a pushed needs place f c w b t m o placed r scalar lies v e) (λ more_needs w2 b2 u grows r2. is_kept g a pushed more_needs place f c w2 b2 u m o placed r2 scalar (lies_later g a pushed needs more_needs c w w2 b b2 t u r r2 grows place m o known lies) v e)
 
   module _ (i : ℕ) (lt : i < length g.parts.funcs.items) where
     abbrev at_symbol : ℕ
@@ -233,7 +238,7 @@ module _ (g : World) (a : Active) (pushed : ℕ) (placed : IsPlacement g.code g.
     func_read : (size : ℕ) → IsRead g a pushed (Pointer size) (λ k. Push (values.Place i 0) ∷ Keep ∷ k) (directs.Address (function_symbol (numbers_of g.parts) i) 0)
     func_read size needs n weight k vs c w b p t seen r turns later =
         step_goes g a pushed needs n weight (Push (values.Place i 0)) (Keep ∷ k) vs c w b p t seen r turns (λ j less.
-        behind_goes g a pushed needs j weight Keep k (values.Place i 0 ∷ vs) c w b p t seen r turns (λ h fewer. later h (values.Place i 0) (omega (arith, less, fewer)) tt (func_told needs c w b t r)))
+        behind_goes g a pushed needs j weight Keep k (values.Place i 0 ∷ vs) c w b p t seen r turns (λ h fewer. later h (values.Place i 0) (omega (arith, less, fewer)) tt (λ m w2 b2 u grows r2. func_told m c w2 b2 u r2)))
 
   module _ (c : Scene) (w : Placing) (t : State) (s : Sym) (at m o : ℕ) (lies : LiesThere g a c w t (Data s at) m o) where
     symbol_small : is_live c.store m ≡ true → lies.symbol.0 + o < 65536
@@ -250,7 +255,7 @@ module _ (g : World) (a : Active) (pushed : ℕ) (placed : IsPlacement g.code g.
   data_read work s at d size same whole needs n weight k vs c w b p t seen r turns later =
       whole needs n weight (Keep ∷ k) vs c w b p t seen r turns (λ j m o lt lies.
       behind_goes g a pushed needs j weight Keep k (values.Place m o ∷ vs) c w b p t seen r turns (λ i less.
-      later i (values.Place m o) (omega (arith, lt, less)) tt (subst (λ x. IsToldBy g a c w t Ax x (values.Place m o)) same (symbol_told c w t s at m o lies))))
+      later i (values.Place m o) (omega (arith, lt, less)) tt (λ more_needs w2 b2 u grows r2. subst (λ x. IsToldBy g a c w2 u Ax x (values.Place m o)) same (symbol_told c w2 u s at m o (lies_later g a pushed needs more_needs c w w2 b b2 t u r r2 grows (Data s at) m o tt lies)))))
 
   address_read : (work : List Item → List Item) (place : Place) (d : Direct) (size : ℕ) → address_at place ≡ Some d → PlaceIsRead g a pushed work place → IsRead g a pushed (Pointer size) (λ k. work (Keep ∷ k)) d
   address_read work (Data s at) d size e whole = let same : directs.Address s at ≡ d = cc in data_read work s at d size same whole
@@ -272,9 +277,9 @@ module _ (g : World) (a : Active) (pushed : ℕ) (placed : IsPlacement g.code g.
       whole needs n weight (Change (shape_of us to) ∷ k) vs c w b p t seen r turns (λ j v lt fit told.
       behind_goes g a pushed needs j weight (Change (shape_of us to)) k (v ∷ vs) c w b p t seen r turns (λ i less. go i (omega (arith, lt, less)) v fit told (meaning.converted (shape_of us to) v) refl))
     where
-      go : (i : ℕ) → i < n → (v : Value) → Fits (shape_of us from) v → IsToldBy g a c w t (width_in (shape_of us from)) d v → (s : Result Value Why) → meaning.converted (shape_of us to) v ≡ s → Follows g i (weight + 4000) (go_on s k vs c) p t seen
+      go : (i : ℕ) → i < n → (v : Value) → Fits (shape_of us from) v → IsToldOn g a pushed c w (width_in (shape_of us from)) d v → (s : Result Value Why) → meaning.converted (shape_of us to) v ≡ s → Follows g i (weight + 4000) (go_on s k vs c) p t seen
       go i lt v fit told (Err why) e = nothing_follows g why i (weight + 4000) p t seen
-      go i lt v fit told (Ok v2) e = later i v2 lt (conversions_fit (shape_of us to) v v2 (target us to) e) (is_converted g a c w t to from us d d2 v v2 r.joins.bytes takes is fit e told)
+      go i lt v fit told (Ok v2) e = later i v2 lt (conversions_fit (shape_of us to) v v2 (target us to) e) (λ m w2 b2 u grows r2. is_converted g a c w2 u to from us d d2 v v2 r2.joins.bytes takes is fit e (told m w2 b2 u grows r2))
 
   pointer_read : (e : Typed) (d : Direct) (size : ℕ) → IsTyped (unit_in g) e → address_of a.frame pushed e ≡ Some d → IsRead g a pushed (Pointer size) (λ k. plan (unit_in g) e (Keep ∷ k)) d
   pointer_read e d size typed is = go (addressed a.frame pushed d e is)
@@ -308,7 +313,7 @@ module _ (g : World) (a : Active) (pushed : ℕ) (placed : IsPlacement g.code g.
       subst (λ x. IsRead g a pushed (shape_of us x) (λ k. plan (unit_in g) e (Fetch (place_shape us e) ∷ k)) d) (sym ty)
       (subst (λ x. IsRead g a pushed f (λ k. plan (unit_in g) e (Fetch x ∷ k)) d) (sym shape.1)
       (subst (IsRead g a pushed f (λ k. plan (unit_in g) e (Fetch f ∷ k))) direct
-      (load_read f (plan (unit_in g) e) place (scalar_shape us (bare e) scalar.1) (places_are_read g a pushed frame e plain typed whole.known))))
+      (load_read f (plan (unit_in g) e) place (scalar_shape us (bare e) scalar.1) whole.known (places_are_read g a pushed frame e plain typed whole.known))))
 
   load_if : (t : QTy) (e : Typed) (d : Direct) → IsTyped (unit_in g) e → IsScalarPlace e → t ≡ plain_of (type_of e) → (plain : Bool) → is_plain e ≡ plain → (if plain then kept_at (place_of a.frame pushed e) (access_of (types_of a.frame.parts.types) e) else None) ≡ Some d
       → IsRead g a pushed (shape_of (unit_in g).types (type_in t)) (λ k. plan (unit_in g) e (Fetch (place_shape (unit_in g).types e) ∷ k)) d
@@ -388,4 +393,9 @@ module _ (g : World) (a : Active) (pushed : ℕ) (placed : IsPlacement g.code g.
 
 pub direct_trees_are_read : DirectTreesAreRead
 direct_trees_are_read g a pushed e d placed frame typed is needs n weight k vs c w b p t seen r turns later =
-    trees_are_read g a pushed placed frame e d typed is needs n weight k vs c w b p t seen r turns (λ j v lt fit told. later j v lt fit (has_bytes g a c w t r.joins.bytes (width_in (shape_in g a e)) d v told))
+    trees_are_read g a pushed placed frame e d typed is needs n weight k vs c w b p t seen r turns (λ j v lt fit told. later j v lt fit (has_bytes g a c w t r.joins.bytes (width_in (shape_in g a e)) d v (told needs w b t (λ m q same. same) r)))
+
+pub direct_trees_are_read_on : DirectTreesAreReadOn
+direct_trees_are_read_on g a pushed e d placed frame typed is needs n weight k vs c w b p t seen r turns later =
+    trees_are_read g a pushed placed frame e d typed is needs n weight k vs c w b p t seen r turns (λ j v lt fit told.
+    later j v lt fit (λ m w2 b2 u grows r2. has_bytes g a c w2 u r2.joins.bytes (width_in (shape_in g a e)) d v (told m w2 b2 u grows r2)))

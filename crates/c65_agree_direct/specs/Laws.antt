@@ -23,7 +23,7 @@ use Rattle.c65_gendirect.specs.declared.direct.Direct.TheVariants.{Kept}
 use Rattle.c65_gendirect.specs.Bytes.{op_of}
 use Rattle.c65_gendirect.specs.Tests.{zero_test_code}
 use Rattle.c65_genexpr.specs.Direct.{direct_of, own_bytes}
-use Rattle.c65_agree_store.specs.Stands.{Placing, Banks}
+use Rattle.c65_agree_store.specs.Stands.{Placing, Banks, Grows}
 use Rattle.c65_agree_state.specs.World.{World, unit_in, Active, HasTurns}
 use Rattle.c65_agree_state.specs.Follows.{Follows}
 use Rattle.c65_agree_state.specs.Exprs.{Ready, Valued, Does, Tests, width_in, shape_in}
@@ -48,6 +48,19 @@ abbrev pub DirectTreesAreRead : Type 0
 DirectTreesAreRead = (g : World) (a : Active) (pushed : ℕ) (e : Typed) (d : Direct)
     → IsPlacement g.code g.place → IsFrameOf g a → IsTyped (unit_in g) e → direct_of a.frame pushed e ≡ Some d
     → IsReadInPlace g a pushed (shape_in g a e) (plan (unit_in g) e) d
+
+-- The same, with the bytes as they are read in each later state with the same scene, behind the lines of a tree that changes nothing.
+abbrev pub IsReadOn : World → Active → ℕ → Shape → (List Item → List Item) → Direct → Type 0
+IsReadOn g a pushed f work d = (needs n weight : ℕ) (k : List Item) (vs : List Value) (c : Scene) (w : Placing) (b : Banks) (p : Spot) (t : State) (seen : Seen)
+    → Ready g a pushed needs c w b t → HasTurns g c.turns p seen
+    → ((j : ℕ) (v : Value) → j < n → Fits f v → ((more_needs : ℕ) (w2 : Placing) (b2 : Banks) (u : State) → Grows w w2 → Ready g a pushed more_needs c w2 b2 u → HasBytes g c.store w2 u (width_in f) d v)
+    → Follows g j (weight + 4000) (Running k (v ∷ vs) c) p t seen)
+    → Follows g n weight (Running (work k) vs c) p t seen
+
+abbrev pub DirectTreesAreReadOn : Type 0
+DirectTreesAreReadOn = (g : World) (a : Active) (pushed : ℕ) (e : Typed) (d : Direct)
+    → IsPlacement g.code g.place → IsFrameOf g a → IsTyped (unit_in g) e → direct_of a.frame pushed e ≡ Some d
+    → IsReadOn g a pushed (shape_in g a e) (plan (unit_in g) e) d
 
 -- An instruction on such a byte: everything is kept but what it says, and Y.
 abbrev pub OperandBytesAreUsed : Type 0

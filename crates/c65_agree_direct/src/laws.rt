@@ -2,6 +2,7 @@
 ghost use Rattle.c65_agree_direct.specs.Laws.{
   DirectLoadsAreTested,
   DirectTreesAreRead,
+  DirectTreesAreReadOn,
   KnownPlacesAreLoaded,
   OperandBytesAreUsed,
 };
@@ -9,6 +10,11 @@ ghost use Rattle.c65_agree_direct.specs.Laws.{
 /// A tree whose bytes are read where they lie has a value with these bytes.
 pub fn direct_trees_are_read()
     ensures { DirectTreesAreRead }
+{}
+
+/// And so in each later state with the same scene.
+pub fn direct_trees_are_read_on()
+    ensures { DirectTreesAreReadOn }
 {}
 
 /// An instruction works on such a byte.

@@ -4,5 +4,6 @@
 mod laws;
 
 pub use laws::{
-    direct_loads_are_tested, direct_trees_are_read, known_places_are_loaded, operand_bytes_are_used,
+    direct_loads_are_tested, direct_trees_are_read, direct_trees_are_read_on,
+    known_places_are_loaded, operand_bytes_are_used,
 };

@@ -22,7 +22,7 @@ use Rattle.c65_agree_state.specs.World.{World, unit_in, Active}
 use Rattle.c65_agree_state.specs.Fixed.{symbol_at, HasFor, is_object_of, HaveOwnObjects, func_has_fixed, AreOnce, HaveFixed}
 use Rattle.c65_agree_state.specs.Joins.{home_spot, spot_of, call_bytes, IsOfCall, HasBlock, HasBank, IsRest, HaveSymbols, Joins}
 use Rattle.c65_agree_state.specs.Exprs.{bounds_of}
-use Rattle.c65_agree_state.specs.Stmts.{AreOpen, Between}
+use Rattle.c65_agree_state.specs.Stmts.{AreOpen, AreSized, Between}
 use Rattle.c65_agree_state.proofs.Scratch.{constants_are_low}
 use Rattle.c65_agree_enter.specs.Params.{bytes_of, ArePassed, HavePlaces, HasBegun, HaveBegun}
 use Rattle.c65_agree_enter.specs.Entries.{MayEnter, FixedAreLow, HaveHomes, IsTaken, banks_with, HasEntered}
@@ -365,10 +365,17 @@ module _ (g : World) (a : Active) (bound cost needs : ℕ) (is : List ℕ) (args
   open_params : AreOpen is c1
   open_params i b x e is live = (object_named i b e).0
 
+  sized_params : AreSized u c1
+  sized_params i b x e is =
+      let has = (object_named i b e).1 in
+      let both : Some x ≡ Some has.block = sym is ∙ has.is in
+      let same : x ≡ has.block = cc in
+      ap (λ y. y.size) same ∙ has.size
+
   entered : HasEntered g a needs is c0 w0 k0 t0 c1 t1
   entered = record {
     placing = w1;
-    between = record { joins = joined; sp = taken.sp; room = omega (arith, soft_is, called.room); scoped = open_params; none_pushed = taken.none_pushed };
+    between = record { joins = joined; sp = taken.sp; room = omega (arith, soft_is, called.room); scoped = open_params; sized = sized_params; call = (h.active, c0.frames, h.frames); none_pushed = taken.none_pushed };
     next = h.next;
     bounds = λ b lt. ap bounds_of (h.old b lt).0;
     grows = grown;

@@ -99,7 +99,7 @@ module _ (g : World) (a outer : Active) (frame : Frame) (passed needs : ℕ) (c0
   old_bounds : (d : ℕ) → d < c0.next → bounds_of (c2.store d) ≡ bounds_of (c0.store d)
   old_bounds d lt =
       let none : HasBlock c d → ⊥ = λ h. let since = j.since d h in omega (arith, since, lt, e.first) in
-      ap bounds_of (other d none) ∙ (kept.bounds d (omega (arith, lt, e.next)) ∙ e.bounds d lt)
+      ap bounds_of (other d none) ∙ (kept.bounds d (omega (arith, lt, e.first)) (omega (arith, lt, e.next)) ∙ e.bounds d lt)
 
   older : (d : ℕ) (x : Block) → c2.store d ≡ Some x → x.live ≡ true → d < c0.next
   older d x is live = go (cases_lt d c0.next)

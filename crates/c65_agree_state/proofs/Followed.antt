@@ -5,9 +5,9 @@ use Rattle.c65_meaning.specs.Step.{perform, steps}
 use Rattle.c65_code.specs.LineState.{Place}
 use Rattle.c65_code.specs.Comes.{Seen, seen_at, here}
 use Rattle.c65_agree_step.proofs.Ways.{weaken, bind}
-use Rattle.c65_agree_state.specs.World.{program_in, setting_in, total, owned_at}
+use Rattle.c65_agree_state.specs.World.{World, program_in, setting_in, total, owned_at, total_in, HasBranched}
 use Rattle.c65_agree_state.specs.Follows.{Agrees, Follows}
-use Rattle.c65_agree_state.specs.Laws.{FollowsWeaken, WaysAreFollowed, StepsEarn, ArrivalsCount, ReadyIsCalm}
+use Rattle.c65_agree_state.specs.Laws.{FollowsWeaken, WaysAreFollowed, StepsEarn, ArrivalsCount, HeadsCount, ReadyIsCalm}
 
 -- ---- weights
 
@@ -48,6 +48,14 @@ total_owned (s ∷ ss) q seen = omega (arith, one ((s.0 == q.0) && (s.1 == q.1))
 
 pub arrivals_count : ArrivalsCount
 arrivals_count g turns q seen le = omega (arith, total_owned g.owns q seen, total_grows g.heads q seen)
+
+pub heads_count : HeadsCount
+heads_count g turns q seen le = omega (arith, total_owned g.owns q seen, total_owned g.heads q seen)
+
+-- whether or not a branch was taken
+pub branches_count : (g : World) (taken : Bool) (turns : ℕ) (q : Place) (seen : Seen) → turns ≤ total_in g seen → HasBranched g taken turns q (seen_at q seen)
+branches_count g true turns q seen le = heads_count g turns q seen le
+branches_count g false turns q seen le = arrivals_count g turns q seen le
 
 -- ---- stacks
 

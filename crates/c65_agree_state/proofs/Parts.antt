@@ -2,14 +2,15 @@
 use Rattle.std.proofs.Common.{◌≡◌, ℕ, ◌+◌, ◌<◌, ◌≤◌, ◌⊎◌, inl, inr, List, Option, Some, None, Bool, true, false, refl, sym, ap, ◌∙◌, arith}
 use Rattle.std.proofs.lemmas.Bool.{cases_lt}
 use Rattle.c65_meaning.specs.Store.{Block, Store, lives_in, is_live}
+use Rattle.c65_meaning.specs.Shapes.{object_in, object_size}
 use Rattle.c65_meaning.specs.After.{is_among}
 use Rattle.c65_meaning.specs.State.{Scene, block_in, soft_sum}
 use Rattle.c65_code.specs.LineState.{State, sp_of}
 use Rattle.c65_agree_store.specs.Stands.{At, Placing, Banks, IsFree}
-use Rattle.c65_agree_state.specs.World.{World, Active}
+use Rattle.c65_agree_state.specs.World.{World, unit_in, Active}
 use Rattle.c65_agree_state.specs.Joins.{spot_of}
 use Rattle.c65_agree_state.specs.Exprs.{Kept, bounds_of}
-use Rattle.c65_agree_state.specs.Stmts.{AreOpen, Between}
+use Rattle.c65_agree_state.specs.Stmts.{AreOpen, AreSized, Between}
 use Rattle.c65_agree_state.specs.Laws.{KeptGoesOn, BetweenIsReady, BetweenStays, KeepingGoesOn}
 
 -- a block lives by its bounds
@@ -81,10 +82,25 @@ module _ (g : World) (a : Active) (needs : ℕ) (scope : List ℕ) (c c2 : Scene
       let lives : is_live c2.store b ≡ true = ap lives_in is ∙ live in
       open_before i b before lives
 
+  still_sized : AreSized (unit_in g) c2
+  still_sized i b x e is = go (c.store b) refl
+    where
+      before : block_in c.frames i ≡ Some b
+      before = sym (ap (λ fs. block_in fs i) kept.frames) ∙ e
+
+      go : (o : Option Block) → c.store b ≡ o → x.size ≡ object_size (unit_in g).types (object_in (unit_in g) i)
+      go None f =
+          let clash : bounds_of (Some x) ≡ None = ap bounds_of (sym is) ∙ (kept.bounds b (begun i b before) ∙ ap bounds_of f) in
+          cc
+      go (Some y) f =
+          let bounds : bounds_of (Some x) ≡ bounds_of (Some y) = ap bounds_of (sym is) ∙ (kept.bounds b (begun i b before) ∙ ap bounds_of f) in
+          let pair : (x.size, x.live) ≡ (y.size, y.live) = cc in
+          ap (λ (r : ℕ × Bool). r.0) pair ∙ h.sized i b y before f
+
   stays_between : Between g a needs scope c2 w2 k2 t2
   stays_between =
       let cost : soft_sum c2.frames ≡ soft_sum c.frames = ap soft_sum kept.frames in
-      record { joins = kept.joins; sp = kept.sp ∙ h.sp; room = omega (arith, cost, h.room); scoped = still_open; none_pushed = kept.none_pushed }
+      record { joins = kept.joins; sp = kept.sp ∙ h.sp; room = omega (arith, cost, h.room); scoped = still_open; sized = still_sized; call = (h.call.0, h.call.1, kept.frames ∙ h.call.2); none_pushed = kept.none_pushed }
 
 pub between_stays : BetweenStays
 between_stays g a needs scope c c2 w w2 k k2 t t2 h kept = stays_between g a needs scope c c2 w w2 k k2 t t2 h kept
@@ -92,7 +108,7 @@ between_stays g a needs scope c c2 w w2 k k2 t t2 h kept = stays_between g a nee
 pub keeping_goes_on : KeepingGoesOn
 keeping_goes_on g a needs scope first c c2 w1 w w2 k1 k k2 t1 t t2 h between part = record {
   next = omega (arith, h.next, part.next);
-  bounds = λ b lt. part.bounds b (omega (arith, lt, h.next)) ∙ h.bounds b lt;
+  bounds = λ b own lt. part.bounds b (omega (arith, lt, h.next)) ∙ h.bounds b own lt;
   grows = λ b q e. part.grows b q (h.grows b q e);
   kept = λ n le f. kept n le f;
   banks = λ d i lt. part.banks d i lt ∙ h.banks d i lt;

@@ -30,7 +30,7 @@ use Rattle.c65_agree_state.specs.World.{World, program_in, setting_in, Active, l
 use Rattle.c65_agree_state.specs.Follows.{Agrees, Follows}
 use Rattle.c65_agree_state.specs.Exprs.{Ready, Kept, Tells, Tests}
 use Rattle.c65_agree_state.specs.Laws.{ConstantTestsDo}
-use Rattle.c65_agree_state.proofs.Followed.{follows_weaken, steps_earn, arrivals_count, ready_is_calm}
+use Rattle.c65_agree_state.proofs.Followed.{follows_weaken, steps_earn, heads_count, ready_is_calm}
 
 -- nothing has changed
 kept_itself : (g : World) (a : Active) (pushed needs : ℕ) (c : Scene) (w : Placing) (k : Banks) (t : State) → Ready g a pushed needs c w k t → Kept g a c w k t c w k t
@@ -92,14 +92,14 @@ module _ (g : World) (a : Active) (kind : IntType) (z : ℤ) (range : InRange ki
       steps_earn g n w (Push (Whole z)) k vs c _ t seen calm r.joins.output r.joins.ended (omega (arith, turns)) (λ j lt.
       follows_weaken g j (1 + (w + 2600)) (w + 4000) _ _ t seen (omega arith)
       (jump g j (w + 2600) _ a.symbol p to t seen (record { line = Do Jmp Absolute (To to); there = has.0; formed = refl; calm = calm; within = tt; running = r.joins.ended })
-      (rest j (Whole z) true c q b t (seen_at at seen) lt (kept_itself g a pushed needs c q b t r) range (tells c.store true true (is c.store)) (arrivals_count g c.turns at seen (omega (arith, turns))))))
+      (rest j (Whole z) true c q b t (seen_at at seen) lt (kept_itself g a pushed needs c q b t r) range (tells c.store true true (is c.store)) (heads_count g c.turns at seen (omega (arith, turns))))))
   decided false false is n w p k vs c q b t seen has r turns rest =
       let calm = (ready_is_calm g a pushed needs c q b t r).calm in
       let at = place_in g a (labelled (lines_of g a) to) in
       steps_earn g n w (Push (Whole z)) k vs c _ t seen calm r.joins.output r.joins.ended (omega (arith, turns)) (λ j lt.
       follows_weaken g j (1 + (w + 2600)) (w + 4000) _ _ t seen (omega arith)
       (jump g j (w + 2600) _ a.symbol p to t seen (record { line = Do Jmp Absolute (To to); there = has.0; formed = refl; calm = calm; within = tt; running = r.joins.ended })
-      (rest j (Whole z) true c q b t (seen_at at seen) lt (kept_itself g a pushed needs c q b t r) range (tells c.store false false (is c.store)) (arrivals_count g c.turns at seen (omega (arith, turns))))))
+      (rest j (Whole z) true c q b t (seen_at at seen) lt (kept_itself g a pushed needs c q b t r) range (tells c.store false false (is c.store)) (heads_count g c.turns at seen (omega (arith, turns))))))
   decided true false is n w p k vs c q b t seen has r turns rest =
       let calm = (ready_is_calm g a pushed needs c q b t r).calm in
       let behind : p ≡ p + 0 = omega arith in

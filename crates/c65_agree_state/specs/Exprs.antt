@@ -23,7 +23,7 @@ use Rattle.c65_genwide.specs.Wide.{width_of}
 use Rattle.c65_genexpr.specs.declared.wanted.Wanted.TheVariants as wanted
 use Rattle.c65_genexpr.specs.Code.{expr_code}
 use Rattle.c65_agree_store.specs.Stands.{At, Placing, Banks, Grows, CellsAre, ValueIs, IsFree}
-use Rattle.c65_agree_state.specs.World.{World, unit_in, Active, lines_of, place_in, HasAt, HasTurns}
+use Rattle.c65_agree_state.specs.World.{World, unit_in, Active, lines_of, place_in, HasAt, HasTurns, HasBranched}
 use Rattle.c65_agree_state.specs.Joins.{Joins}
 use Rattle.c65_agree_state.specs.Follows.{Follows}
 
@@ -115,7 +115,7 @@ module _ (g : World) (a : Active) where
   abbrev pub RestOfTest : Shape → Bool → ℕ → ℕ → ℕ → List Item → List Value → ℕ → Scene → Placing → Banks → State → Type 0
   RestOfTest shape s to n w k vs p c q b t = (j : ℕ) (v : Value) (taken : Bool) (c2 : Scene) (q2 : Placing) (b2 : Banks) (u : State) (seen : Seen)
       → j < n → Kept g a c q b t c2 q2 b2 u → MayFit Valued shape v → Tells c2.store v s taken
-      → HasTurns g c2.turns (place_in g a (if taken then labelled (lines_of g a) to else p)) seen
+      → HasBranched g taken c2.turns (place_in g a (if taken then labelled (lines_of g a) to else p)) seen
       → Follows g j (w + 2600) (Running k (v ∷ vs) c2) (place_in g a (if taken then labelled (lines_of g a) to else p)) u seen
 
   -- the lines, wherever they stand in the function, do the work

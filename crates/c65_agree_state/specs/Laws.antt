@@ -17,7 +17,7 @@ use Rattle.c65_code.specs.Placement.{IsPlacement, stack_start}
 use Rattle.c65_code.specs.Steady.{IsCalm}
 use Rattle.c65_code.specs.Comes.{Seen, seen_at, Comes}
 use Rattle.c65_agree_store.specs.Stands.{Placing, Banks}
-use Rattle.c65_agree_state.specs.World.{World, Active, program_in, setting_in, total_in, HasTurns}
+use Rattle.c65_agree_state.specs.World.{World, Active, program_in, setting_in, total_in, HasTurns, HasCome}
 use Rattle.c65_agree_state.specs.Joins.{Joins}
 use Rattle.c65_agree_state.specs.Follows.{Follows}
 use Rattle.c65_agree_state.specs.Exprs.{Ready, Yield, Valued, Placed, Kept, Does, ExpressionDoes, TestDoes}
@@ -44,6 +44,10 @@ StepsEarn = (g : World) (n w : ℕ) (i : Item) (k : List Item) (vs : List Value)
 -- where the machine comes to a line, the turns of that line are counted before they are taken
 abbrev pub ArrivalsCount : Type 0
 ArrivalsCount = (g : World) (turns : ℕ) (q : Place) (seen : Seen) → turns ≤ total_in g seen → HasTurns g turns q (seen_at q seen)
+
+-- and with them those of the loops whose head it is
+abbrev pub HeadsCount : Type 0
+HeadsCount = (g : World) (turns : ℕ) (q : Place) (seen : Seen) → turns ≤ total_in g seen → HasCome g turns q (seen_at q seen)
 
 -- ---- states
 

@@ -1,6 +1,6 @@
 -- What stays the same along a run, and along one call: the program, its code and where it is placed; the active function, its frame
 -- and the sp that stands there while no value waits.
-use Rattle.std.specs.Prelude.{◌≡◌, ℕ, suc, ◌+◌, ◌≤◌, ◌==◌, ◌&&◌, if◌then◌else◌, List, [], ◌∷◌, Some, Ok, slice_get}
+use Rattle.std.specs.Prelude.{◌≡◌, ℕ, suc, ◌+◌, ◌≤◌, ◌==◌, ◌&&◌, Bool, true, false, if◌then◌else◌, List, [], ◌∷◌, Some, Ok, slice_get}
 use Rattle.c65_csem.specs.declared.items.Parts.{Parts}
 use Rattle.c65_csem.specs.Trees.{UnitTy}
 use Rattle.c65_csem.specs.Views.{unit_of}
@@ -90,3 +90,13 @@ owned_at (p ∷ ps) q = (if (p.0 == q.0) && (p.1 == q.1) then 1 else 0) + owned_
 -- there were no more turns than arrivals, and those that are still to be taken at this line are among these
 abbrev pub HasTurns : World → ℕ → Place → Seen → Type 0
 HasTurns g turns q seen = turns + owned_at g.owns q ≤ total_in g seen
+
+-- The machine has just come to this line, by a jump or a branch: beside these the turns of the loops whose head it is are among the arrivals,
+-- and may be taken.
+abbrev pub HasCome : World → ℕ → Place → Seen → Type 0
+HasCome g turns q seen = turns + owned_at g.owns q + owned_at g.heads q ≤ total_in g seen
+
+-- so it is where a branch was taken
+abbrev pub HasBranched : World → Bool → ℕ → Place → Seen → Type 0
+HasBranched g true turns q seen = HasCome g turns q seen
+HasBranched g false turns q seen = HasTurns g turns q seen

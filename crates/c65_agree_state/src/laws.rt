@@ -1,5 +1,5 @@
 // Laws of the relation between meaning and machine, each the contract of a function that does nothing.
-ghost use Rattle.c65_agree_state.specs.Laws.{AddressesDo, ArrivalsCount, BetweenIsReady, BetweenStays, CommasDo, ConstantTestsDo, ConstantsDo, FollowsWeaken, KeepingGoesOn, KeptGoesOn, ReadyIsCalm, ReadyStays, ScratchChanges, ScratchIsKept, StepsEarn, WaysAreFollowed};
+ghost use Rattle.c65_agree_state.specs.Laws.{AddressesDo, ArrivalsCount, BetweenIsReady, BetweenStays, CommasDo, ConstantTestsDo, ConstantsDo, FollowsWeaken, HeadsCount, KeepingGoesOn, KeptGoesOn, ReadyIsCalm, ReadyStays, ScratchChanges, ScratchIsKept, StepsEarn, WaysAreFollowed};
 
 /// What is followed within a weight is followed within a greater one.
 pub fn follows_weaken()
@@ -19,6 +19,11 @@ pub fn steps_earn()
 /// Where the machine comes to a line, as many turns may be taken as stand there.
 pub fn arrivals_count()
     ensures { ArrivalsCount }
+{}
+
+/// With them those of the loops whose head it is may be taken.
+pub fn heads_count()
+    ensures { HeadsCount }
 {}
 
 /// Where an expression may begin the machine is calm, and each routine has its room.

@@ -5,6 +5,6 @@ mod laws;
 
 pub use laws::{
     addresses_do, arrivals_count, between_is_ready, between_stays, commas_do, constant_tests_do,
-    constants_do, follows_weaken, keeping_goes_on, kept_goes_on, ready_is_calm, ready_stays,
-    scratch_changes, scratch_is_kept, steps_earn, ways_are_followed,
+    constants_do, follows_weaken, heads_count, keeping_goes_on, kept_goes_on, ready_is_calm,
+    ready_stays, scratch_changes, scratch_is_kept, steps_earn, ways_are_followed,
 };

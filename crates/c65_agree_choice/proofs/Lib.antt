@@ -1,0 +1,5 @@
+pub mod Numbers
+pub mod Ways
+pub mod Tests
+pub mod Choices
+pub mod Ranges

@@ -1,0 +1,12 @@
+pub mod Branches
+pub mod Taken
+pub mod Values
+pub mod Joints
+pub mod Choices
+pub mod Stacked
+pub mod Zeros
+pub mod Ways
+pub mod Equal
+pub mod Orders
+pub mod Directs
+pub mod Lines

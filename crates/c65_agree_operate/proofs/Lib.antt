@@ -1,0 +1,13 @@
+pub mod Manners
+pub mod Behind
+pub mod Converted
+pub mod Given
+pub mod Routines
+pub mod Stacked
+pub mod Exact
+pub mod Lefts
+pub mod Opposites
+pub mod Conversions
+pub mod Truths
+pub mod Last
+pub mod Lines

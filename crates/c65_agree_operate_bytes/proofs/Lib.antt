@@ -1,0 +1,9 @@
+pub mod Words
+pub mod Direct
+pub mod Short
+pub mod Rights
+pub mod Sums
+pub mod Under
+pub mod Swapped
+pub mod Held
+pub mod DirectLefts
