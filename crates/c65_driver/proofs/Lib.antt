@@ -1,13 +1,1 @@
 pub mod PartLaws
-pub mod TextLaws
-pub mod AnswerLaws
-pub mod RunLaws
-pub mod FrontLaws
-pub mod GenLaws
-pub mod DepthLaws
-pub mod GoLaws
-pub mod LinkLaws
-pub mod BuildLaws
-pub mod PrintLaws
-pub mod ImageLaws
-pub mod ToolLaws

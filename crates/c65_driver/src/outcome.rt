@@ -1,32 +1,8 @@
-// What a call of the tool leaves.
+// How a call of the tool ended.
 ghost use Rattle.std.specs.Prelude.{◌≡◌};
 ghost use Rattle.c65_driver.specs.Outcome.{code_of};
 
 use c65_base::Refusal;
-use c65_code::Code;
-use c65_mach::Image;
-
-/// What a call made on its way.
-#[derive(Drop)]
-pub struct Made {
-    /// The code that was linked.
-    pub code: Option<Code>,
-    /// The image that was linked, or the one that was read.
-    pub image: Option<Image>,
-}
-
-impl Made {
-    /// Nothing yet.
-    pub fn nothing() -> Made
-        ensures code { result.code ≡ None }
-        ensures image { result.image ≡ None }
-    {
-        Made {
-            code: None,
-            image: None,
-        }
-    }
-}
 
 /// How a call of the tool ended.
 #[derive(Debug, Drop)]

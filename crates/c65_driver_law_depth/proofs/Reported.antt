@@ -10,7 +10,7 @@ use Rattle.c65_sim.specs.View.{arguments_size}
 use Rattle.c65_depth_law_fits.proofs.Typed.{check_is_exact}
 use Rattle.c65_depth_law_fits.proofs.Runs.{checked_is_never_deep}
 use Rattle.c65_driver_words.specs.Commands.{Spelled}
-use Rattle.c65_driver.specs.Depth.{IsMeasured, arguments_of, size_of, verdict_status, status_by}
+use Rattle.c65_commands.specs.Depth.{IsMeasured, arguments_of, size_of, verdict_status, status_by}
 use Rattle.c65_driver_law_depth.specs.Reported.{measured, HasFittingRows, FittingIsReported, NoReportedStateIsDeep}
 
 -- ---- the bytes of arguments

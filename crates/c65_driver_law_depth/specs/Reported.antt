@@ -8,7 +8,7 @@ use Rattle.c65_depth.specs.declared.program.CertRow.{CertRow}
 use Rattle.c65_depth.specs.Numbers.{certificate_of}
 use Rattle.c65_depth.specs.Certificates.{IsFitting}
 use Rattle.c65_driver_words.specs.Commands.{Spelled}
-use Rattle.c65_driver.specs.Depth.{IsMeasured, arguments_of, size_of}
+use Rattle.c65_commands.specs.Depth.{IsMeasured, arguments_of, size_of}
 
 module _ (c : Spelled) (contents : Contents) (text : List ℕ) (status : ℕ) where
   -- the program that was measured

@@ -16,9 +16,9 @@ use Rattle.c65_link_law_runtime.specs.Laws.{LinkedRuntimesAreMet}
 use Rattle.c65_driver_words.specs.Commands.{Spelled}
 use Rattle.c65_driver_words.specs.declared.command.CommandKind.{CommandKind}
 use Rattle.c65_driver_words.specs.declared.command.CommandKind.TheVariants as kinds
-use Rattle.c65_driver.specs.Compiled.{IsRead}
-use Rattle.c65_driver.specs.Outside.{Outside}
-use Rattle.c65_driver.specs.Tool.{Serves}
+use Rattle.c65_commands.specs.Compiled.{IsRead}
+use Rattle.c65_commands.specs.Outside.{Outside}
+use Rattle.c65_commands.specs.Tool.{Serves}
 use Rattle.c65_driver_law_images.specs.Laws.{IsLinkable, PrintedCodesAreSound, PrintedCodesReadBack, MadeCodesAreSound, MadeImagesFollow}
 use Rattle.c65_driver_law_images.proofs.Processors.{renumbered_runs}
 

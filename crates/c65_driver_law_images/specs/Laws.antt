@@ -20,9 +20,9 @@ use Rattle.c65_link_law_images.specs.Reaches.{Reaches}
 use Rattle.c65_link_law_images.specs.Laws.{AreBytes, IsRun}
 use Rattle.c65_driver_words.specs.Commands.{Spelled}
 use Rattle.c65_driver_words.specs.Words.{Is}
-use Rattle.c65_driver.specs.Compiled.{IsPrintedAs}
-use Rattle.c65_driver.specs.Outside.{Outside}
-use Rattle.c65_driver.specs.Tool.{Performs}
+use Rattle.c65_commands.specs.Compiled.{IsPrintedAs}
+use Rattle.c65_commands.specs.Outside.{Outside}
+use Rattle.c65_commands.specs.Tool.{Performs}
 
 -- What the laws of images ask of a code: the processor has its rows; it can be written, its functions are segments, and each of its
 -- symbols has lines or a datum or is named; its numbers are of bytes.

@@ -1,0 +1,10 @@
+pub mod Assembly
+pub mod Causes
+pub mod Compiled
+pub mod Depth
+pub mod Generated
+pub mod Outside
+pub mod Setups
+pub mod Text
+pub mod Told
+pub mod Tool
