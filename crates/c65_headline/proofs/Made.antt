@@ -33,8 +33,8 @@ use Rattle.c65_genstmt.specs.Programs.{program_of}
 use Rattle.c65_meaning.specs.Program.{ProgramTy}
 use Rattle.c65_driver_chain.specs.Front.{Command, programs, generated, compiled}
 use Rattle.c65_driver_words.specs.Commands.{Spelled}
-use Rattle.c65_driver.specs.Compiled.{IsLinked, IsOfFront, front}
-use Rattle.c65_driver.specs.Outside.{Outside}
+use Rattle.c65_commands.specs.Compiled.{IsLinked, IsOfFront, front}
+use Rattle.c65_commands.specs.Outside.{Outside}
 use Rattle.c65_driver_law_images.proofs.Made.{printed_codes_read_back}
 use Rattle.c65_headline.specs.Images.{ImageAgrees}
 use Rattle.c65_headline.specs.Lines.{LineAgrees, StandsForIf, StandsFor}

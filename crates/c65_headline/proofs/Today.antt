@@ -1,21 +1,17 @@
 -- The clause of the tool as it is today.
-use Rattle.std.proofs.Common.{◌≡◌, ◌∙◌, ℕ, zero, suc, Bool, true, false, List, [], ◌∷◌, Option, Some, None, Result, Ok, slice_get, refl, ap, sym, subst}
-use Rattle.std.proofs.lemmas.Option.{same_Some}
+use Rattle.std.proofs.Common.{◌≡◌, ◌∙◌, ℕ, Bool, true, false, List, Option, Some, None, Result, Ok, ap, sym, subst}
 use Rattle.c65_base.specs.declared.options.Options.{Options}
 use Rattle.c65_base.specs.declared.refusal.Refusal.{Refusal}
 use Rattle.c65_mach.specs.declared.image.Image.{Image}
 use Rattle.c65_code.specs.declared.code.Code.{Code}
-use Rattle.c65_code.specs.declared.line.Sym.{Sym}
 use Rattle.c65_code.specs.Literals.{literals_of}
-use Rattle.c65_code.specs.Segments.{Segment}
 use Rattle.c65_csem.specs.Trees.{UnitTy}
 use Rattle.c65_csem.specs.declared.items.Parts.{Parts}
 use Rattle.c65_csem.specs.Views.{unit_of}
 use Rattle.c65_genframe.specs.Modes.{modes_of}
 use Rattle.c65_genstmt.specs.Programs.{program_of}
-use Rattle.c65_opt_law_chains.specs.Laws.{FollowsUntilEndEverywhere}
-use Rattle.c65_opt_law_whole.specs.Laws.{OptimisedNamesNothing}
-use Rattle.c65_optimise.specs.Optimised.{AreRewritten, IsOptimised, OptimisedIf, OptimisedBy}
+use Rattle.c65_opt_law_whole.specs.Laws.{HasConstantLiterals}
+use Rattle.c65_optimise.specs.Optimised.{OptimisedIf, OptimisedBy}
 use Rattle.c65_ppline.specs.Relations.{Answers, ◌then◌}
 use Rattle.c65_ppdir.specs.Units.{Held}
 use Rattle.c65_driver_chain.specs.Front.{programs, IsGood, generated}
@@ -23,10 +19,9 @@ use Rattle.c65_driver_words.specs.Commands.{Spelled}
 use Rattle.c65_driver_words.specs.Words.{Spelling, Is, NoCommand, spelling_of}
 use Rattle.c65_driver_words.specs.declared.command.CommandKind.{CommandKind}
 use Rattle.c65_driver_words.specs.declared.command.CommandKind.TheVariants as kinds
-use Rattle.c65_driver.specs.Compiled.{IsPrintedAs, IsOfSources, front}
-use Rattle.c65_driver.specs.Outside.{Outside}
-use Rattle.c65_driver.specs.Tool.{Serves, Performs}
-use Rattle.c65_headline.specs.Planned.{RewritingsFollow}
+use Rattle.c65_commands.specs.Compiled.{IsPrintedAs, IsOfSources, front}
+use Rattle.c65_commands.specs.Outside.{Outside}
+use Rattle.c65_commands.specs.Tool.{Serves, Performs}
 use Rattle.c65_headline.specs.Fronts.{command_of, IsMadeOf}
 use Rattle.c65_headline.specs.Lines.{StandsForIf}
 use Rattle.c65_headline.specs.Headline.{IsMade, IsMadeBy}
@@ -55,32 +50,22 @@ stems_by P o code (x, h, (parts, u, good, g)) =
       generates = g;
     }
 
--- where a function has lines, its rewritten form has some
-defined_in : (options : Options) (literals : List (Sym × List ℕ)) (fs gs : List (Sym × Segment)) (k : ℕ) (f : Sym × Segment) → AreRewritten options literals fs gs → slice_get fs k ≡ Some f → (g : Sym × Segment) × (slice_get gs k ≡ Some g) × (g.0 ≡ f.0)
-defined_in options literals [] [] k f r h = absurd cc
-defined_in options literals [] (g ∷ gs) k f r h = absurd r
-defined_in options literals (x ∷ fs) [] k f r h = absurd r
-defined_in options literals (x ∷ fs) (g ∷ gs) zero f ((named, rewritten), more) h = (g, refl, named ∙ ap (λ (y : Sym × Segment). y.0) (same_Some x f h))
-defined_in options literals (x ∷ fs) (g ∷ gs) (suc k) f (first, more) h = defined_in options literals fs gs k f more h
-
 -- what the optimiser keeps, and what its lines do
-stands_if : (naming : OptimisedNamesNothing) (asked : Bool) (options : Options) (old new : Code) → OptimisedIf asked options old new
-    → (IsOptimised options old new → (f : ℕ) → FollowsUntilEndEverywhere old new f) → StandsForIf asked old new
-stands_if naming false options old new e follows = e
-stands_if naming true options old new o follows = record {
+stands_if : Grounds → (asked : Bool) (options : Options) (old new : Code) → HasConstantLiterals old → OptimisedIf asked options old new → StandsForIf asked old new
+stands_if grounds false options old new literals e = e
+stands_if grounds true options old new literals o = record {
   symbols = o.symbols;
   datums = o.datums;
   main_args = o.main_args;
-  defined = λ f h.
-      let g = defined_in options (literals_of old.symbols old.datums) old.functions new.functions h.at h.unit o.functions h.there in
-      record { at = h.at; unit = g.0; there = g.1; is = ap (λ (s : Sym). s.0) g.2 ∙ h.is };
-  names = naming options old new o;
-  follows = follows o;
+  defined = grounds.functions options old new o;
+  names = grounds.names options old new o;
+  follows = λ main. grounds.follows options old new main literals o
+      (grounds.calls options (literals_of old.symbols old.datums));
 }
 
-made_of : (naming : OptimisedNamesNothing) (rewriting : RewritingsFollow) (held : Held) (command : Spelled) (code : Code)
+made_of : Grounds → (held : Held) (command : Spelled) (code : Code)
     → (c : Code) × (new : Code) × front held command (Ok c) × OptimisedBy command.options c new × IsPrintedAs command.options.cpu new code → IsMadeOf held command code
-made_of naming rewriting held command code (c, new, h, w, r) =
+made_of grounds held command code (c, new, h, w, r) =
     let s : Stems command.options (programs (command_of held command) command.files) c =
     stems_by (programs (command_of held command) command.files) command.options c h in
     record {
@@ -92,31 +77,31 @@ made_of naming rewriting held command code (c, new, h, w, r) =
       generated = c;
       generates = s.generates;
       rewritten = new;
-      rewrites = stands_if naming command.options.optimise command.options c new w (λ o. rewriting held command s.parts s.main s.names c new code s.front s.generates o r);
+      rewrites = stands_if grounds command.options.optimise command.options c new (grounds.literals s.parts s.main s.names (modes_of command.options) c s.generates) w;
       printed = r;
     }
 
-from_sources : (naming : OptimisedNamesNothing) (rewriting : RewritingsFollow) (command : Spelled) (old : Outside) (code : Option Code) (answer : Result ℕ Refusal)
+from_sources : (grounds : Grounds) (command : Spelled) (old : Outside) (code : Option Code) (answer : Result ℕ Refusal)
     → IsOfSources command old.files.contents code answer → (held : Held) (c : Code) → old.files.contents ≡ Some held → code ≡ Some c → IsMadeOf held command c
-from_sources naming rewriting command old None answer s held c told e = absurd (let h : (let x : Option Code = None in x ≡ Some c) = e in cc)
-from_sources naming rewriting command old (Some k) answer s held c told e =
+from_sources grounds command old None answer s held c told e = absurd (let h : (let x : Option Code = None in x ≡ Some c) = e in cc)
+from_sources grounds command old (Some k) answer s held c told e =
     let same : k ≡ c = let h : (let x : Option Code = Some k in x ≡ Some c) = e in cc in
-    subst (λ (x : Code). IsMadeOf held command x) same (made_of naming rewriting held command k (s held told))
+    subst (λ (x : Code). IsMadeOf held command x) same (made_of grounds held command k (s held told))
 
-made_by : (naming : OptimisedNamesNothing) (rewriting : RewritingsFollow) (kind : CommandKind) (command : Spelled) (old new : Outside) (code : Option Code) (image : Option Image) (answer : Result ℕ Refusal)
+made_by : (grounds : Grounds) (kind : CommandKind) (command : Spelled) (old new : Outside) (code : Option Code) (image : Option Image) (answer : Result ℕ Refusal)
     → Serves kind command old new code image answer → IsMadeBy kind command old code
-made_by naming rewriting kinds.Go command old new code image answer s = λ held c told e. from_sources naming rewriting command old code answer s.from_files held c told e
-made_by naming rewriting kinds.Build command old new code image answer s = λ held c told e. from_sources naming rewriting command old code answer s.builds.from_files held c told e
-made_by naming rewriting kinds.Text command old new code image answer s = λ held c told e. from_sources naming rewriting command old code answer s.texts.from_files held c told e
-made_by naming rewriting kinds.Run command old new code image answer s = λ held c told e. absurd (let h : (let x : Option Code = None in x ≡ Some c) = sym s.no_code ∙ e in cc)
-made_by naming rewriting kinds.Gen command old new code image answer s = tt
-made_by naming rewriting kinds.Depth command old new code image answer s = λ held c told e. absurd (let h : (let x : Option Code = None in x ≡ Some c) = sym s.no_code ∙ e in cc)
+made_by grounds kinds.Go command old new code image answer s = λ held c told e. from_sources grounds command old code answer s.from_files held c told e
+made_by grounds kinds.Build command old new code image answer s = λ held c told e. from_sources grounds command old code answer s.builds.from_files held c told e
+made_by grounds kinds.Text command old new code image answer s = λ held c told e. from_sources grounds command old code answer s.texts.from_files held c told e
+made_by grounds kinds.Run command old new code image answer s = λ held c told e. absurd (let h : (let x : Option Code = None in x ≡ Some c) = sym s.no_code ∙ e in cc)
+made_by grounds kinds.Gen command old new code image answer s = tt
+made_by grounds kinds.Depth command old new code image answer s = λ held c told e. absurd (let h : (let x : Option Code = None in x ≡ Some c) = sym s.no_code ∙ e in cc)
 
-made_today : (naming : OptimisedNamesNothing) (rewriting : RewritingsFollow) (spelling : Spelling) (old new : Outside) (code : Option Code) (image : Option Image) (answer : Result ℕ Refusal)
+made_today : (grounds : Grounds) (spelling : Spelling) (old new : Outside) (code : Option Code) (image : Option Image) (answer : Result ℕ Refusal)
     → Performs spelling old new code image answer → IsMade spelling old code
-made_today naming rewriting (NoCommand word) old new code image answer s = tt
-made_today naming rewriting (Is command) old new code image answer s = made_by naming rewriting command.kind command old new code image answer s
+made_today grounds (NoCommand word) old new code image answer s = tt
+made_today grounds (Is command) old new code image answer s = made_by grounds command.kind command old new code image answer s
 
 pub holds_today : Grounds → HeadlineHoldsToday
 holds_today grounds laws words old new code image answer bytes s =
-    holds grounds laws words old new code image answer bytes s (made_today grounds.names laws.rewriting (spelling_of words) old new code image answer s)
+    holds grounds laws words old new code image answer bytes s (made_today grounds (spelling_of words) old new code image answer s)

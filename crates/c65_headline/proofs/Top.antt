@@ -14,12 +14,12 @@ use Rattle.c65_driver_words.specs.Commands.{Spelled}
 use Rattle.c65_driver_words.specs.Words.{Spelling, Is, NoCommand, spelling_of}
 use Rattle.c65_driver_words.specs.declared.command.CommandKind.{CommandKind}
 use Rattle.c65_driver_words.specs.declared.command.CommandKind.TheVariants as kinds
-use Rattle.c65_driver.specs.Assembly.{MadeText, TextTo}
-use Rattle.c65_driver.specs.Causes.{ReadCauses}
-use Rattle.c65_driver.specs.Compiled.{IsLinked, IsOfSources, ServesWith, WriteServes}
-use Rattle.c65_driver.specs.Outside.{Outside, text_part}
-use Rattle.c65_driver.specs.Setups.{Setup, setup_of, MadeRuns, ImageRuns}
-use Rattle.c65_driver.specs.Tool as tools
+use Rattle.c65_commands.specs.Assembly.{MadeText, TextTo}
+use Rattle.c65_commands.specs.Causes.{ReadCauses}
+use Rattle.c65_commands.specs.Compiled.{IsLinked, IsOfSources, ServesWith, WriteServes}
+use Rattle.c65_commands.specs.Outside.{Outside, text_part}
+use Rattle.c65_commands.specs.Setups.{Setup, setup_of, MadeRuns, ImageRuns}
+use Rattle.c65_commands.specs.Tool as tools
 use Rattle.c65_headline.specs.Images.{AreBytes}
 use Rattle.c65_headline.specs.Fronts.{IsFront, IsMadeOf}
 use Rattle.c65_headline.specs.Planned.{IsSpelled}

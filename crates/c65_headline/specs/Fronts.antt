@@ -12,7 +12,7 @@ use Rattle.c65_genframe.specs.Modes.{modes_of}
 use Rattle.c65_genstmt.specs.Programs.{program_of}
 use Rattle.c65_driver_chain.specs.Front.{Command, command, programs, IsGood}
 use Rattle.c65_driver_words.specs.Commands.{Spelled}
-use Rattle.c65_driver.specs.Compiled.{IsPrintedAs}
+use Rattle.c65_commands.specs.Compiled.{IsPrintedAs}
 use Rattle.c65_headline.specs.Lines.{StandsForBy}
 
 abbrev pub command_of : Held → Spelled → Command

@@ -20,8 +20,8 @@ use Rattle.c65_driver_words.specs.declared.command.CommandKind.{CommandKind}
 use Rattle.c65_driver_words.specs.declared.command.CommandKind.TheVariants as kinds
 use Rattle.c65_meaning.specs.Program.{ProgramTy}
 use Rattle.c65_meaning.specs.Sem.{Ends, IsDefined, sem}
-use Rattle.c65_driver.specs.Outside.{Outside}
-use Rattle.c65_driver.specs.Setups.{Setup, setup_of}
+use Rattle.c65_commands.specs.Outside.{Outside}
+use Rattle.c65_commands.specs.Setups.{Setup, setup_of}
 use Rattle.c65_headline.specs.Images.{AreBytes, ImageAgrees}
 use Rattle.c65_headline.specs.Fronts.{IsFront, HasLargeFrame, IsMadeOf}
 

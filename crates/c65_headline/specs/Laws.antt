@@ -4,10 +4,10 @@ use Rattle.c65_base.specs.declared.refusal.Refusal.{Refusal}
 use Rattle.c65_mach.specs.declared.image.Image.{Image}
 use Rattle.c65_code.specs.declared.code.Code.{Code}
 use Rattle.c65_driver_words.specs.Words.{spelling_of}
-use Rattle.c65_driver.specs.Outside.{Outside}
-use Rattle.c65_driver.specs.Tool.{Performs}
+use Rattle.c65_commands.specs.Outside.{Outside}
+use Rattle.c65_commands.specs.Tool.{Performs}
 use Rattle.c65_headline.specs.Images.{AreBytes}
-use Rattle.c65_headline.specs.Planned.{ProgramsAgree, RewritingsFollow}
+use Rattle.c65_headline.specs.Planned.{ProgramsAgree}
 use Rattle.c65_headline.specs.Headline.{IsMade, Headline}
 
 -- What is not proved yet. Each field is a law of the crate that it names; docs/LADDER.md has them as a table.
@@ -15,8 +15,6 @@ pub record Laws : Type 0 where
   -- The lines of a good program's code, at every placement, show what its meaning shows, within 4,000 for each step and the start,
   -- and with a line reached for each turn: the simulation, a law above c65_genstmt.
   pub lines : ProgramsAgree
-  -- What the optimiser makes of a program's code does what that code does: laws above c65_opt_law_whole.
-  pub rewriting : RewritingsFollow
 
 -- From what is left, what the tool's clause says of words, and how the code was made, the main theorem follows.
 abbrev pub HeadlineHolds : Type 0

@@ -7,19 +7,13 @@ use Rattle.c65_code.specs.declared.code.Code.{Code}
 use Rattle.c65_csem.specs.declared.items.Parts.{Parts}
 use Rattle.c65_csem.specs.Views.{unit_of}
 use Rattle.c65_genframe.specs.declared.modes.Modes.{Modes}
-use Rattle.c65_genframe.specs.Modes.{modes_of}
 use Rattle.c65_genframe.specs.Symbols.{numbers_of, function_symbol}
 use Rattle.c65_genstmt.specs.Programs.{program_of}
-use Rattle.c65_ppdir.specs.Units.{Held}
-use Rattle.c65_driver_chain.specs.Front.{programs, IsGood}
+use Rattle.c65_driver_chain.specs.Front.{IsGood}
 use Rattle.c65_driver_words.specs.Commands.{Spelled}
 use Rattle.c65_driver_words.specs.Words.{spelling_of, Is}
-use Rattle.c65_driver.specs.Compiled.{IsPrintedAs}
-use Rattle.c65_driver.specs.Setups.{setup_of}
-use Rattle.c65_headline.specs.Fronts.{command_of}
+use Rattle.c65_commands.specs.Setups.{setup_of}
 use Rattle.c65_headline.specs.Images.{AreBytes}
-use Rattle.c65_optimise.specs.Optimised.{IsOptimised}
-use Rattle.c65_opt_law_chains.specs.Laws.{FollowsUntilEndEverywhere}
 use Rattle.c65_headline.specs.Lines.{LineAgrees}
 
 -- ---- words
@@ -45,15 +39,7 @@ abbrev pub OnlyFramesAreRefused : Type 0
 OnlyFramesAreRefused = (parts : Parts) (main : ℕ) (names : List (List ℕ)) (modes : Modes) (fault : Fault) → program_of parts main names modes ≡ Err fault
     → (value : ℕ) × (fault ≡ large sizes.Frame value)
 
--- ---- from a code to the code that its text reads as
-
--- The functions of the code that the optimiser makes of the front's program, where it could be written, do what those of the program's
--- code do, with the arrivals before the end: each rewriting keeps what lines do.
-abbrev pub RewritingsFollow : Type 0
-RewritingsFollow = (held : Held) (command : Spelled) (parts : Parts) (main : ℕ) (names : List (List ℕ)) (code new read : Code)
-    → programs (command_of held command) command.files (Ok ((unit_of parts, main), names)) → program_of parts main names (modes_of command.options) ≡ Ok code
-    → IsOptimised command.options code new → IsPrintedAs command.options.cpu new read
-    → (f : ℕ) → FollowsUntilEndEverywhere code new f
+-- ---- from a code to what the optimiser makes of it
 
 -- ---- from a code to its image
 

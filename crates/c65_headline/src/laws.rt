@@ -6,7 +6,9 @@ use c65_gen_law_names::{main_has_lines, programs_are_closed};
 use c65_know_law::notes_are_true;
 use c65_link_law_runtime::linked_runtimes_are_met;
 use c65_meaning_law_turns::turns_go_on;
-use c65_opt_law_whole::optimised_names_nothing;
+use c65_opt_law_opened::opened_calls_serve;
+use c65_opt_law_program::literals_are_constant;
+use c65_opt_law_whole::{optimised_is_closed, optimised_is_followed, optimised_names_nothing};
 use c65_ppdir_law::units_are_one;
 
 /// From the laws that are left, the tool's clause and the making of the code, the main theorem follows.
@@ -17,6 +19,10 @@ pub fn headline_holds()
     turns_go_on();
     programs_are_closed();
     main_has_lines();
+    literals_are_constant();
+    opened_calls_serve();
+    optimised_is_followed();
+    optimised_is_closed();
     optimised_names_nothing();
     notes_are_true();
     linked_runtimes_are_met();
@@ -30,6 +36,10 @@ pub fn headline_holds_today()
     turns_go_on();
     programs_are_closed();
     main_has_lines();
+    literals_are_constant();
+    opened_calls_serve();
+    optimised_is_followed();
+    optimised_is_closed();
     optimised_names_nothing();
     notes_are_true();
     linked_runtimes_are_met();
