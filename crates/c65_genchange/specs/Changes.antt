@@ -1,9 +1,9 @@
 -- Numbers that are changed where they lie, where nothing needs their value then (C90 6.3.2.4, 6.3.3.1, 6.3.16). A byte that is
 -- stored is read before by the same lines alone, and no byte of the number is read again. The label is placed once in each form.
-use Rattle.std.specs.Prelude.{ℕ, ◌+◌, ◌==◌, Bool, false, if◌then◌else◌, List, [], ◌∷◌, ◌++◌}
+use Rattle.std.specs.Prelude.{ℕ, ◌+◌, ◌%◌, ◌==◌, Bool, false, if◌then◌else◌, List, [], ◌∷◌, ◌++◌}
 use Rattle.c65_base.specs.declared.operators.BinaryOp.{BinaryOp}
 use Rattle.c65_base.specs.declared.operators.BinaryOp.TheVariants as ops
-use Rattle.c65_mach.specs.declared.rows.Op.TheVariants.{Bcc, Bcs, Bne, Dec, Inc, Lda, Sbc, Sec, Sta, Stx, Txa}
+use Rattle.c65_mach.specs.declared.rows.Op.TheVariants.{Adc, Bcc, Bcs, Bne, Dec, Inc, Lda, Sbc, Sec, Sta, Stx, Txa}
 use Rattle.c65_code.specs.declared.line.Line.{Line}
 use Rattle.c65_code.specs.declared.line.Line.TheVariants.{Label}
 use Rattle.c65_genwide.specs.Lines.{value}
@@ -15,7 +15,7 @@ use Rattle.c65_genchange.specs.declared.spots.Target.{Target}
 use Rattle.c65_genchange.specs.declared.spots.Target.TheVariants.{Byte, Word}
 use Rattle.c65_genchange.specs.declared.changes.Change.{Change}
 use Rattle.c65_genchange.specs.declared.changes.Change.TheVariants.{Up, Down, Number, Operand}
-use Rattle.c65_genchange.specs.Spots.{reach_code, again_code}
+use Rattle.c65_genchange.specs.Spots.{reach_code, again_code, beside_code}
 
 -- one more: the high byte goes up where the low one is 0 then
 abbrev pub up_code : Target → ℕ → List Line
@@ -58,9 +58,22 @@ low_code op n spot = if is_neutral op n then [] else first_code op n spot
 abbrev pub high_code : BinaryOp → ℕ → Spot → ℕ → List Line
 high_code op n spot label = if is_neutral op n then [] else skip_code op n label ++ next_code op n spot
 
+-- a sum or a difference with one
+abbrev pub is_one : BinaryOp → ℕ → Bool
+is_one ops.Add n = n % 65536 == 1
+is_one ops.Sub n = n % 65536 == 1
+is_one op n = false
+
+-- behind a low byte to which one was added, or from which one was taken: where the high byte changes A is 0 with a carry, or 255
+-- without one
+abbrev pub carried_code : BinaryOp → Spot → Spot → ℕ → List Line
+carried_code op low high label = skip_code op 0 label ++ (beside_code Adc low high ++ again_code Sta high)
+
 abbrev pub number_code : BinaryOp → ℕ → Target → ℕ → List Line
 number_code op n (Byte low) label = low_code op (first n) low ++ (Label label ∷ [])
-number_code op n (Word low high) label = low_code op (first n) low ++ (high_code op (second n) high label ++ (Label label ∷ []))
+number_code op n (Word low high) label =
+    if is_one op n then first_code op 1 low ++ (carried_code op low high label ++ (Label label ∷ []))
+    else low_code op (first n) low ++ (high_code op (second n) high label ++ (Label label ∷ []))
 
 -- ---- by the value in AX
 
@@ -97,4 +110,4 @@ change_code (Operand op target) label = operand_code op target ++ (Label label �
 
 -- the same byte twice
 abbrev pub fill_code : ℕ → Spot → Spot → List Line
-fill_code n low high = value Lda n ∷ (reach_code Sta low ++ reach_code Sta high)
+fill_code n low high = value Lda n ∷ (reach_code Sta low ++ beside_code Sta low high)

@@ -1,7 +1,7 @@
 -- Bytes that are changed where they lie.
-use Rattle.std.specs.Prelude.{ℕ, ◌+◌, ◌&&◌, Bool, true, false, Option, Some, None, List, [], ◌∷◌}
+use Rattle.std.specs.Prelude.{ℕ, ◌+◌, ◌==◌, ◌&&◌, if◌then◌else◌, Bool, true, false, Option, Some, None, List, [], ◌∷◌}
 use Rattle.c65_mach.specs.declared.rows.Op.{Op}
-use Rattle.c65_mach.specs.declared.rows.Op.TheVariants.{Ldy, Sta, Stx}
+use Rattle.c65_mach.specs.declared.rows.Op.TheVariants.{Iny, Ldy, Sta, Stx}
 use Rattle.c65_code.specs.declared.line.Line.{Line}
 use Rattle.c65_genwide.specs.Lines.{value}
 use Rattle.c65_genload.specs.declared.places.Place.{Place}
@@ -10,7 +10,7 @@ use Rattle.c65_genload.specs.declared.places.Access.{Access}
 use Rattle.c65_genload.specs.declared.places.Access.TheVariants.{Whole, Part}
 use Rattle.c65_genload.specs.declared.places.Extent.{Extent}
 use Rattle.c65_genload.specs.declared.places.Extent.TheVariants.{One, Two}
-use Rattle.c65_genload.specs.Words.{sp, ptr1, regbank, zero_page, by_y, absolute}
+use Rattle.c65_genload.specs.Words.{sp, ptr1, regbank, implied, zero_page, by_y, absolute}
 use Rattle.c65_genload.specs.Places.{byte_more, word_more, extent_of}
 use Rattle.c65_genchange.specs.declared.spots.Spot.{Spot}
 use Rattle.c65_genchange.specs.declared.spots.Spot.TheVariants.{Behind, Data, Zero}
@@ -49,6 +49,15 @@ abbrev pub again_code : Op → Spot → List Line
 again_code op (Behind pointer at) = by_y op pointer ∷ []
 again_code op (Data sym at) = absolute op sym at ∷ []
 again_code op (Zero at) = zero_page op at ∷ []
+
+-- whether a byte is the next one behind another, both reached by Y
+abbrev pub is_next : Spot → Spot → Bool
+is_next (Behind pointer at) (Behind other next) = (pointer == other) && (next == byte_more at 1)
+is_next first second = false
+
+-- an instruction on a byte, where Y still reaches the one before it
+abbrev pub beside_code : Op → Spot → Spot → List Line
+beside_code op first second = if is_next first second then implied Iny ∷ again_code op second else reach_code op second
 
 -- whether an instruction counts the byte up or down by itself
 abbrev pub is_counted : Spot → Bool

@@ -6,9 +6,9 @@ ghost use Rattle.c65_mach.specs.declared.rows.Op.TheVariants.{Bne};
 ghost use Rattle.c65_genload.specs.Words.{branch};
 ghost use Rattle.c65_gendirect.specs.Words.{instruction, carry_code};
 ghost use Rattle.c65_code.specs.declared.line.Line.TheVariants.{Label};
-ghost use Rattle.c65_genchange.specs.Changes.{up_code, down_code, byte_code, first_code, next_code, is_neutral, skip_code, low_code, high_code, number_code, aside_code, taken_code, less_code, joined_code, more_code, operand_code, change_code, fill_code};
+ghost use Rattle.c65_genchange.specs.Changes.{up_code, down_code, byte_code, first_code, next_code, is_neutral, skip_code, low_code, high_code, is_one, carried_code, number_code, aside_code, taken_code, less_code, joined_code, more_code, operand_code, change_code, fill_code};
 
-use crate::spots::{Spot, Target, put_again, put_reach};
+use crate::spots::{Spot, Target, put_again, put_beside, put_reach};
 use c65_base::BinaryOp;
 use c65_code::Draft;
 use c65_code::Line::{Do, Label};
@@ -193,6 +193,33 @@ fn put_high(
     put_next(op, number, spot, draft)
 }
 
+// A sum or a difference with one.
+fn is_one(op: BinaryOp, number: u32) -> bool
+    ensures { result ≡ is_one op number }
+{
+    match op {
+        BinaryOp::Add | BinaryOp::Sub => number % 65_536 == 1,
+        _ => false,
+    }
+}
+
+// Behind a low byte to which one was added, or from which one was taken: where the high byte changes A is 0 with a
+// carry, or 255 without one.
+fn put_carried(
+    op: BinaryOp,
+    low: Spot,
+    high: Spot,
+    label: u32,
+    draft: &mut Draft,
+) -> Result<(), AllocError>
+    ensures lines { OnOk result (draft.new ≡ with_lines draft.old (carried_code op low high label)) }
+    ensures kept { OnErr result (Keeps draft.old draft.new) }
+{
+    put_skip(op, 0, label, draft)?;
+    put_beside(Adc, low, high, draft)?;
+    put_again(Sta, high, draft)
+}
+
 fn put_number(
     op: BinaryOp,
     number: u32,
@@ -206,6 +233,11 @@ fn put_number(
     match target {
         Target::Byte(low) => {
             put_low(op, first(number), low, draft)?;
+            put_label(label, draft)
+        }
+        Target::Word(low, high) if is_one(op, number) => {
+            put_first(op, 1, low, draft)?;
+            put_carried(op, low, high, label, draft)?;
             put_label(label, draft)
         }
         Target::Word(low, high) => {
@@ -309,5 +341,5 @@ pub fn put_fill(byte: u8, low: Spot, high: Spot, draft: &mut Draft) -> Result<()
 {
     put(draft, &[Do(Lda, Immediate, Byte(byte))])?;
     put_reach(Sta, low, draft)?;
-    put_reach(Sta, high, draft)
+    put_beside(Sta, low, high, draft)
 }

@@ -5,6 +5,6 @@ mod changes;
 mod spots;
 mod stepping;
 
-pub use changes::{Change, put_change, put_fill};
+pub use changes::{Change, instruction, put_carry, put_change, put_fill};
 pub use spots::{Spot, Target, all_counted, put_again, put_point, put_reach, spot_at, target_of};
 pub use stepping::{is_post, put_stepped, step_op};

@@ -1,17 +1,17 @@
 // Bytes that are changed where they lie.
 ghost use Rattle.std.specs.Prelude.{◌≡◌, OnOk, OnErr};
 ghost use Rattle.c65_genwide.specs.Lines.{with_lines, Keeps};
-ghost use Rattle.c65_genchange.specs.Spots.{spot_at, point_code, target_of, reach_code, again_code, is_counted, all_counted};
+ghost use Rattle.c65_genchange.specs.Spots.{spot_at, point_code, target_of, reach_code, again_code, is_next, beside_code, is_counted, all_counted};
 
 use c65_code::Line::Do;
-use c65_code::Operand::{At, Byte, Zero};
+use c65_code::Operand::{At, Byte, Nothing, Zero};
 use c65_code::{Draft, Sym};
 use c65_genload::zero_page::{PTR1, REGBANK, SP};
 use c65_genload::{Access, Extent, Place, extent_of};
 use c65_genwide::put;
-use c65_mach::Mode::{Absolute, Immediate, IndirectY, ZeroPage};
+use c65_mach::Mode::{Absolute, Immediate, Implied, IndirectY, ZeroPage};
 use c65_mach::Op;
-use c65_mach::Op::{Ldy, Sta, Stx};
+use c65_mach::Op::{Iny, Ldy, Sta, Stx};
 use std::alloc::AllocError;
 
 /// A byte that is changed where it lies.
@@ -91,6 +91,31 @@ pub fn put_point(place: Place, draft: &mut Draft) -> Result<(), AllocError>
             ],
         ),
         Place::Bank(_) | Place::Near(_) | Place::Data(_, _) => put(draft, &[]),
+    }
+}
+
+// Whether a byte is the next one behind another, both reached by Y.
+fn is_next(first: Spot, second: Spot) -> bool
+    ensures { result ≡ is_next first second }
+{
+    match (first, second) {
+        (Spot::Behind(pointer, at), Spot::Behind(other, next)) => {
+            pointer == other && next == at.wrapping_add(1)
+        }
+        (_, _) => false,
+    }
+}
+
+/// Puts an instruction that works on a byte, where Y still reaches the byte before it if that is reached by Y.
+pub fn put_beside(op: Op, first: Spot, second: Spot, draft: &mut Draft) -> Result<(), AllocError>
+    ensures lines { OnOk result (draft.new ≡ with_lines draft.old (beside_code op first second)) }
+    ensures kept { OnErr result (Keeps draft.old draft.new) }
+{
+    if is_next(first, second) {
+        put(draft, &[Do(Iny, Implied, Nothing)])?;
+        put_again(op, second, draft)
+    } else {
+        put_reach(op, second, draft)
     }
 }
 

@@ -7,9 +7,12 @@ use Rattle.c65_genload.specs.declared.places.Place.{Place}
 use Rattle.c65_genload.specs.declared.places.Place.TheVariants as places
 use Rattle.c65_genload.specs.declared.places.Access.{Access}
 use Rattle.c65_genexpr.specs.Operands.{constant_in}
-use Rattle.c65_genexpr.specs.Operating.{takes_bytes, is_light}
+use Rattle.c65_genexpr.specs.declared.operands.Operands.{Operands}
+use Rattle.c65_genexpr.specs.declared.operating.Form.{Form}
+use Rattle.c65_genexpr.specs.Operating.{takes_bytes, constant_right, is_light}
 use Rattle.c65_genexpr.specs.Direct.{is_pure}
 use Rattle.c65_genexpr.specs.Uses.{uses}
+use Rattle.c65_genexpr.proofs.Known.{IsThere, after_there, constant_uses}
 use Rattle.c65_genchange.specs.declared.spots.Target.{Target}
 use Rattle.c65_genchange.specs.declared.changes.Change.TheVariants.{Operand}
 use Rattle.c65_geneffect.specs.declared.changing.Changing.{Changing}
@@ -21,7 +24,7 @@ use Rattle.c65_genload.specs.declared.places.Field.{Field}
 use Rattle.c65_genload.specs.declared.places.Access.TheVariants.{Whole, Part}
 use Rattle.c65_genload.specs.Fields.{is_in_byte}
 use Rattle.c65_geneffect.specs.Setting.{setting_at, setting_by, setting_of, SetsFree}
-use Rattle.c65_geneffect.specs.Changing.{loaded_by, fixed_or, changing_at, changing_of, number_in, fill_by, filling_at, filling_of, ChangesFree, FillsFree}
+use Rattle.c65_geneffect.specs.Changing.{loaded_by, fixed_or, computed_or, computed_by, changing_at, changing_in, changing_of, number_in, fill_by, filling_at, filling_of, ChangesFree, FillsFree}
 
 -- ---- assignments with an operator
 
@@ -43,16 +46,33 @@ fixed_free : (op : BinaryOp) (size : ℕ) (target : Target) (z : Option ℤ) (ot
 fixed_free op size target None other b h p = p
 fixed_free op size target (Some z) other b h p = h z refl
 
+computed_free_or : (form : Option Form) (b : Typed) → (IsThere form → uses None b ≡ 0) → ChangesFree (computed_or form) b
+computed_free_or (Some form) b free = free tt
+computed_free_or None b free = tt
+
+computed_free : (op : BinaryOp) (operands : Operands) (place : Place) (access : Access) (b : Typed) → ChangesFree (computed_by op operands place access b) b
+computed_free op operands (places.Far at) access b = tt
+computed_free op operands (places.Bank x) (Part field) b = tt
+computed_free op operands (places.Near at) (Part field) b = tt
+computed_free op operands (places.Data s at) (Part field) b = tt
+computed_free op operands (places.Bank x) (Whole kind) b = computed_free_or (constant_right op operands b) b (λ h. constant_uses b (after_there _ (constant_in b) h))
+computed_free op operands (places.Near at) (Whole kind) b = computed_free_or (constant_right op operands b) b (λ h. constant_uses b (after_there _ (constant_in b) h))
+computed_free op operands (places.Data s at) (Whole kind) b = computed_free_or (constant_right op operands b) b (λ h. constant_uses b (after_there _ (constant_in b) h))
+
 at_free : (op : BinaryOp) (size : ℕ) (place : Place) (t : Option Target) (b : Typed) → ChangesFree (changing_at op size place b t) b
 at_free op size place None b = tt
 at_free op size place (Some target) b = fixed_free op size target (constant_in b) (loaded_by (is_pure b) op size place target) b (constant_free b) (loaded_free (is_pure b) op size place target b)
 
-either_free : (c : Bool) (how : Changing) (b : Typed) → ChangesFree how b → ChangesFree (if c then how else Otherwise) b
-either_free true how b p = p
-either_free false how b p = tt
+in_free : (op : BinaryOp) (operands : Operands) (size : ℕ) (place : Place) (access : Access) (b : Typed) (t : Option Target) → ChangesFree (changing_in op operands size place access b t) b
+in_free op operands size place access b None = computed_free op operands place access b
+in_free op operands size place access b (Some target) = at_free op size place (Some target) b
 
-pub changes_free : (op : BinaryOp) (size : ℕ) (place : Place) (access : Access) (b : Typed) → ChangesFree (changing_of op size place access b) b
-changes_free op size place access b = either_free (takes_bytes op) (changing_at op size place b (target_of place access)) b (at_free op size place (target_of place access) b)
+either_free : (c : Bool) (how other : Changing) (b : Typed) → ChangesFree how b → ChangesFree other b → ChangesFree (if c then how else other) b
+either_free true how other b p q = p
+either_free false how other b p q = q
+
+pub changes_free : (op : BinaryOp) (operands : Operands) (size : ℕ) (place : Place) (access : Access) (b : Typed) → ChangesFree (changing_of op operands size place access b) b
+changes_free op operands size place access b = either_free (takes_bytes op) _ _ b (in_free op operands size place access b (target_of place access)) (computed_free op operands place access b)
 
 -- ---- `=`
 

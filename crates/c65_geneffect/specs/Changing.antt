@@ -7,9 +7,12 @@ use Rattle.c65_csem.specs.Trees.{Typed, node, constant, null}
 use Rattle.c65_genload.specs.declared.places.Place.{Place}
 use Rattle.c65_genload.specs.declared.places.Place.TheVariants.{Far}
 use Rattle.c65_genload.specs.declared.places.Access.{Access}
+use Rattle.c65_genload.specs.declared.places.Access.TheVariants.{Whole, Part}
 use Rattle.c65_genload.specs.Numbers.{first, second}
 use Rattle.c65_genexpr.specs.Operands.{residue_of, constant_in}
-use Rattle.c65_genexpr.specs.Operating.{takes_bytes}
+use Rattle.c65_genexpr.specs.declared.operands.Operands.{Operands}
+use Rattle.c65_genexpr.specs.declared.operating.Form.{Form}
+use Rattle.c65_genexpr.specs.Operating.{takes_bytes, constant_right}
 use Rattle.c65_genexpr.specs.Direct.{is_pure}
 use Rattle.c65_genexpr.specs.Uses.{uses}
 use Rattle.c65_genchange.specs.declared.spots.Target.{Target}
@@ -17,7 +20,7 @@ use Rattle.c65_genchange.specs.declared.spots.Target.TheVariants.{Word}
 use Rattle.c65_genchange.specs.declared.changes.Change.{Change}
 use Rattle.c65_genchange.specs.declared.changes.Change.TheVariants.{Up, Down, Number, Operand}
 use Rattle.c65_geneffect.specs.declared.changing.Changing.{Changing}
-use Rattle.c65_geneffect.specs.declared.changing.Changing.TheVariants.{Fixed, Loaded, Otherwise}
+use Rattle.c65_geneffect.specs.declared.changing.Changing.TheVariants.{Fixed, Loaded, Computed, Otherwise}
 use Rattle.c65_geneffect.specs.declared.changing.Fill.{Fill}
 use Rattle.c65_genchange.specs.Spots.{all_counted, target_of}
 use Rattle.c65_genchange.specs.Stepping.{step_op}
@@ -62,8 +65,22 @@ abbrev pub changing_at : BinaryOp → ℕ → Place → Typed → Option Target 
 changing_at op size place b None = Otherwise
 changing_at op size place b (Some target) = fixed_or op size target (constant_in b) (loaded_by (is_pure b) op size place target)
 
-abbrev pub changing_of : BinaryOp → ℕ → Place → Access → Typed → Changing
-changing_of op size place access b = if takes_bytes op then changing_at op size place b (target_of place access) else Otherwise
+-- the value is computed on as an operator does it, and put back, where the place needs no address
+abbrev pub computed_or : Option Form → Changing
+computed_or (Some form) = Computed form
+computed_or None = Otherwise
+
+abbrev pub computed_by : BinaryOp → Operands → Place → Access → Typed → Changing
+computed_by op operands (Far at) access b = Otherwise
+computed_by op operands place (Part field) b = Otherwise
+computed_by op operands place (Whole kind) b = computed_or (constant_right op operands b)
+
+abbrev pub changing_in : BinaryOp → Operands → ℕ → Place → Access → Typed → Option Target → Changing
+changing_in op operands size place access b None = computed_by op operands place access b
+changing_in op operands size place access b (Some target) = changing_at op size place b (Some target)
+
+abbrev pub changing_of : BinaryOp → Operands → ℕ → Place → Access → Typed → Changing
+changing_of op operands size place access b = if takes_bytes op then changing_in op operands size place access b (target_of place access) else computed_by op operands place access b
 
 -- ---- `=`
 
@@ -91,6 +108,7 @@ filling_of place access b = filling_at place access (number_in b)
 abbrev pub ChangesFree : Changing → Typed → Type 0
 ChangesFree (Fixed change) b = uses None b ≡ 0
 ChangesFree (Loaded change) b = Unit {0}
+ChangesFree (Computed form) b = uses None b ≡ 0
 ChangesFree Otherwise b = Unit {0}
 
 abbrev pub FillsFree : Option Fill → Typed → Type 0

@@ -1,3 +1,4 @@
 pub mod Changing
 pub mod Effects
+pub mod Placing
 pub mod Setting

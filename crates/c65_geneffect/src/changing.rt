@@ -4,22 +4,24 @@ ghost use Rattle.c65_csem.specs.Views.{typed_of};
 ghost use Rattle.c65_genexpr.specs.Direct.{is_pure};
 ghost use Rattle.c65_genexpr.specs.Operating.{takes_bytes};
 ghost use Rattle.c65_genexpr.specs.Places.{place_of};
-ghost use Rattle.c65_geneffect.specs.Changing.{in_front, step_by, stepping_of, counting, loaded_by, changing_of, number_in, fill_by, filling_of, ChangesFree, FillsFree};
+ghost use Rattle.c65_geneffect.specs.Changing.{in_front, step_by, stepping_of, counting, loaded_by, computed_by, changing_of, number_in, fill_by, filling_of, ChangesFree, FillsFree};
 
 use c65_base::{BinaryOp, StepKind};
 use c65_csem::{TExpr, TKind};
 use c65_genchange::{Change, Spot, Target, all_counted, step_op, target_of};
-use c65_genexpr::{constant_in, is_pure, place_of, residue_of};
+use c65_genexpr::{Form, Operands, constant_in, constant_right, is_pure, place_of, residue_of};
 use c65_genframe::Frame;
 use c65_genload::{Access, Place, first, second};
 
 /// How an assignment with an operator changes its left side.
-#[derive(Clone, Copy, Debug, PartialEq, Eq)]
+#[derive(Clone, Copy)]
 pub enum Changing {
     /// By a constant.
     Fixed(Change),
     /// By the right side, whose value comes to AX before.
     Loaded(Change),
+    /// By a constant: the value comes to the primary register, and back.
+    Computed(Form),
     /// As where the value is used.
     Otherwise,
 }
@@ -89,8 +91,28 @@ fn loaded_by(op: BinaryOp, size: u32, place: Place, b: &TExpr, target: Target) -
     }
 }
 
+// By a constant, where the place needs no address and the operator takes it as it is.
+fn computed_by(
+    op: BinaryOp,
+    operands: Operands,
+    place: Place,
+    access: Access,
+    b: &TExpr,
+) -> Changing
+    ensures { result ≡ computed_by op operands place access (typed_of b.now) }
+{
+    match (place, access) {
+        (Place::Far(_), _) | (_, Access::Part(_)) => Changing::Otherwise,
+        (_, Access::Whole(_)) => match constant_right(op, operands, b) {
+            Some(form) => Changing::Computed(form),
+            None => Changing::Otherwise,
+        },
+    }
+}
+
 fn form_of(
     op: BinaryOp,
+    operands: Operands,
     size: u32,
     frame: &Frame<'_>,
     pushed: u16,
@@ -98,14 +120,14 @@ fn form_of(
     a: &TExpr,
     b: &TExpr,
 ) -> Changing
-    ensures { result ≡ changing_of op size (place_of frame.now pushed (typed_of a.now)) access (typed_of b.now) }
+    ensures { result ≡ changing_of op operands size (place_of frame.now pushed (typed_of a.now)) access (typed_of b.now) }
 {
     let place = place_of(frame, pushed, a);
     if !takes_bytes(op) {
-        return Changing::Otherwise;
+        return computed_by(op, operands, place, access, b);
     }
     match target_of(place, access) {
-        None => Changing::Otherwise,
+        None => computed_by(op, operands, place, access, b),
         Some(target) => match constant_in(b) {
             Some(z) => {
                 let number = residue_of(z) as u64 * size as u64 % 0x1_0000_0000;
@@ -120,6 +142,7 @@ fn form_of(
 /// bytes wait and an element has so many. A right side that is left out has no labels.
 pub fn changing_of(
     op: BinaryOp,
+    operands: Operands,
     size: u32,
     frame: &Frame<'_>,
     pushed: u16,
@@ -127,10 +150,10 @@ pub fn changing_of(
     a: &TExpr,
     b: &TExpr,
 ) -> Changing
-    ensures exact { result ≡ changing_of op size (place_of frame.now pushed (typed_of a.now)) access (typed_of b.now) }
+    ensures exact { result ≡ changing_of op operands size (place_of frame.now pushed (typed_of a.now)) access (typed_of b.now) }
     ensures free { ChangesFree result (typed_of b.now) }
 {
-    form_of(op, size, frame, pushed, access, a, b)
+    form_of(op, operands, size, frame, pushed, access, a, b)
 }
 
 /// A constant, or Null.

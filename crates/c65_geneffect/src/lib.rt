@@ -3,6 +3,7 @@
 
 mod changing;
 mod effect;
+mod placing;
 mod setting;
 
 pub use effect::put_effect;

@@ -4,19 +4,13 @@ use Rattle.c65_mach.specs.declared.rows.Op.TheVariants.{Ldy}
 use Rattle.c65_code.specs.declared.line.Line.{Line}
 use Rattle.c65_code.specs.declared.routine.Routine.TheVariants.{IncSp, DecSp, AddYSp, SubYSp}
 use Rattle.c65_code.specs.declared.routine.Count.{Count}
-use Rattle.c65_code.specs.declared.routine.Count.TheVariants.{One, Two, Three, Four, Five, Six, Seven, Eight}
+use Rattle.c65_code.specs.declared.routine.Count.TheVariants.{One, Two}
 use Rattle.c65_genwide.specs.Lines.{value, call}
 
--- from 1 to 8 there are routines
+-- for one byte and two there are routines that take no Y; the others, to 8, are longer than what they save
 abbrev pub count_of : ℕ → Option Count
 count_of (suc zero) = Some One
 count_of (suc (suc zero)) = Some Two
-count_of (suc (suc (suc zero))) = Some Three
-count_of (suc (suc (suc (suc zero)))) = Some Four
-count_of (suc (suc (suc (suc (suc zero))))) = Some Five
-count_of (suc (suc (suc (suc (suc (suc zero)))))) = Some Six
-count_of (suc (suc (suc (suc (suc (suc (suc zero))))))) = Some Seven
-count_of (suc (suc (suc (suc (suc (suc (suc (suc zero)))))))) = Some Eight
 count_of _ = None
 
 abbrev pub raise_by : ℕ → Option Count → List Line

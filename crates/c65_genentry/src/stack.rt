@@ -16,19 +16,13 @@ fn index(y: u8) -> Line
     Line::Do(Op::Ldy, Mode::Immediate, Operand::Byte(y))
 }
 
-/// The count of a routine; none but from 1 to 8.
+/// The count of a routine that takes no Y; none but of 1 and 2.
 fn count_of(bytes: u8) -> Option<Count>
     ensures { result ≡ count_of bytes }
 {
     match bytes {
         1 => Some(Count::One),
         2 => Some(Count::Two),
-        3 => Some(Count::Three),
-        4 => Some(Count::Four),
-        5 => Some(Count::Five),
-        6 => Some(Count::Six),
-        7 => Some(Count::Seven),
-        8 => Some(Count::Eight),
         _ => None,
     }
 }

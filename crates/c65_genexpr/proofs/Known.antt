@@ -27,7 +27,7 @@ use Rattle.c65_gendirect.specs.Compare.{mirrored, relation_of}
 use Rattle.c65_genwide.specs.Wide.{width_of}
 use Rattle.c65_genexpr.specs.declared.comparing.Side.TheVariants.{Left, Right}
 use Rattle.c65_genexpr.specs.declared.comparing.Comparing.{Comparing}
-use Rattle.c65_genexpr.specs.declared.comparing.Comparing.TheVariants.{Truth, Byte, Whole, Held, Stacked}
+use Rattle.c65_genexpr.specs.declared.comparing.Comparing.TheVariants.{Truth, Byte, Whole, Held, HeldByte, Stacked}
 use Rattle.c65_genexpr.specs.declared.operating.Form.{Form}
 use Rattle.c65_genexpr.specs.declared.operating.Operating.{Operating}
 use Rattle.c65_genexpr.specs.declared.operating.Operating.TheVariants as operating
@@ -43,7 +43,7 @@ use Rattle.c65_genexpr.specs.Comparing.{is_zero, zero_sense, tested_by, lowest, 
 use Rattle.c65_genexpr.specs.Operating.{word_in, direct_right, direct_left, by_left, by_right, operating_of, reading_of, is_light, held_form, held_if}
 use Rattle.c65_genexpr.specs.Operating as operators
 use Rattle.c65_genexpr.specs.Uses.{uses}
-use Rattle.c65_genexpr.specs.Leaving.{ComparesFree, OperatesFree, StoresFree}
+use Rattle.c65_genexpr.specs.Leaving.{ComparesFree, LowsPlain, OperatesFree, StoresFree}
 use Rattle.c65_genexpr.specs.Storing.{pointer_of, through, by_value, by_pointer, held_at, storing_by, storing_of}
 use Rattle.c65_genexpr.specs.Storing as stores
 
@@ -204,7 +204,7 @@ left_there : (op : BinaryOp) (operands : Operands) (d : Option Direct) → IsThe
 left_there op operands (Some d) h = tt
 left_there op operands None h = h
 
-after_there : {A B : Type 0} (g : A → Option B) (o : Option A) → IsThere (option_and_then g o) → IsThere o
+pub after_there : {A B : Type 0} (g : A → Option B) (o : Option A) → IsThere (option_and_then g o) → IsThere o
 after_there g (Some x) h = tt
 after_there g None h = h
 
@@ -400,10 +400,11 @@ beside_right a b r bytes kind x None first other = tt
 beside_right a b r bytes kind x (Some d) first other =
     either_free a b (is_raised r (range_of bytes kind) d) _ _ (meets_right a b (raised r) bytes kind x (sides_of (width_of kind) (one_more d)) first (other tt)) (meets_right a b r bytes kind x (sides_of (width_of kind) d) first (other tt))
 
-held_by_free : (a b : Typed) (is : Bool) (w : Width) (r : Relation) (kind : IntType) → ComparesFree (held_by is w r kind) None a None b
-held_by_free a b true Ax r kind = tt
-held_by_free a b true Eax r kind = tt
-held_by_free a b false w r kind = tt
+held_by_free : (a b : Typed) (is bytes : Bool) (w : Width) (r : Relation) (kind : IntType) → ComparesFree (held_by is bytes w r kind) None a None b
+held_by_free a b true true Ax r kind = tt
+held_by_free a b true false Ax r kind = tt
+held_by_free a b true bytes Eax r kind = tt
+held_by_free a b false bytes w r kind = tt
 
 or_held_free : (a b : Typed) (how held : Comparing) → ComparesFree how None a None b → ComparesFree held None a None b → ComparesFree (or_held how held) None a None b
 or_held_free a b (Truth side) held p q = p
@@ -411,17 +412,18 @@ or_held_free a b (Byte side None r d) held p q = p
 or_held_free a b (Byte side (Some low) r d) held p q = p
 or_held_free a b (Whole side r is_signed sides) held p q = p
 or_held_free a b (Held r is_signed) held p q = p
+or_held_free a b (HeldByte r) held p q = p
 or_held_free a b Stacked held p q = q
 
-compared_free : (f : Framed) (pushed : ℕ) (r : Relation) (kind : IntType) (a b : Typed) → ComparesFree (or_held (compared_by r (is_byte a && is_byte b) kind (is_pure b) (direct_of f pushed a) (direct_of f pushed b)) (held_by (is_light f pushed b) (width_of kind) r kind)) None a None b
+compared_free : (f : Framed) (pushed : ℕ) (r : Relation) (kind : IntType) (a b : Typed) → ComparesFree (or_held (compared_by r (is_byte a && is_byte b) kind (is_pure b) (direct_of f pushed a) (direct_of f pushed b)) (held_by (is_light f pushed b) (is_byte a && is_byte b) (width_of kind) r kind)) None a None b
 compared_free f pushed r kind a b =
     or_held_free a b (compared_by r (is_byte a && is_byte b) kind (is_pure b) (direct_of f pushed a) (direct_of f pushed b)) _ (either_free a b (changes kind (is_pure b) (direct_of f pushed a) (direct_of f pushed b)) _ _
     (beside_right a b (mirrored r) (is_byte a && is_byte b) kind (direct_of f pushed b) (direct_of f pushed a) (direct_uses f pushed b) (direct_uses f pushed a))
     (beside_left a b r (is_byte a && is_byte b) kind (direct_of f pushed a) (direct_of f pushed b) (direct_uses f pushed a) (direct_uses f pushed b)))
-    (held_by_free a b (is_light f pushed b) (width_of kind) r kind)
+    (held_by_free a b (is_light f pushed b) (is_byte a && is_byte b) (width_of kind) r kind)
 
 -- by which of the sides is 0
-zero_free : (f : Framed) (pushed : ℕ) (r : Relation) (kind : IntType) (a b : Typed) (za zb : Bool) (s : Option Bool) → is_zero a ≡ za → is_zero b ≡ zb → ComparesFree (if is_some (if zb then s else None) then Truth Left else (if is_some (if za then s else None) then Truth Right else or_held (compared_by r (is_byte a && is_byte b) kind (is_pure b) (direct_of f pushed a) (direct_of f pushed b)) (held_by (is_light f pushed b) (width_of kind) r kind))) (if zb then s else None) a (if za then s else None) b
+zero_free : (f : Framed) (pushed : ℕ) (r : Relation) (kind : IntType) (a b : Typed) (za zb : Bool) (s : Option Bool) → is_zero a ≡ za → is_zero b ≡ zb → ComparesFree (if is_some (if zb then s else None) then Truth Left else (if is_some (if za then s else None) then Truth Right else or_held (compared_by r (is_byte a && is_byte b) kind (is_pure b) (direct_of f pushed a) (direct_of f pushed b)) (held_by (is_light f pushed b) (is_byte a && is_byte b) (width_of kind) r kind))) (if zb then s else None) a (if za then s else None) b
 zero_free f pushed r kind a b true true None is_a is_b = compared_free f pushed r kind a b
 zero_free f pushed r kind a b true false None is_a is_b = compared_free f pushed r kind a b
 zero_free f pushed r kind a b false true None is_a is_b = compared_free f pushed r kind a b
@@ -432,3 +434,20 @@ zero_free f pushed r kind a b true false (Some s) is_a is_b = zero_uses None a i
 
 pub compares_free : (f : Framed) (pushed : ℕ) (r : Relation) (kind : IntType) (a b : Typed) → ComparesFree (comparing_of f pushed r kind a b) (tested_by r b) a (tested_by r a) b
 compares_free f pushed r kind a b = zero_free f pushed r kind a b (is_zero a) (is_zero b) (zero_sense r) refl refl
+
+-- no side is tested of which the low byte alone is had
+lows_plain : (how : Comparing) → LowsPlain how None None
+lows_plain (Truth side) = tt
+lows_plain (Byte side low r d) = (refl, refl)
+lows_plain (Whole side r is_signed sides) = tt
+lows_plain (Held r is_signed) = tt
+lows_plain (HeldByte r) = (refl, refl)
+lows_plain Stacked = tt
+
+lows_if : (s r : Option Bool) (how : Comparing) → LowsPlain (if is_some s then Truth Left else (if is_some r then Truth Right else how)) s r
+lows_if (Some s) r how = tt
+lows_if None (Some r) how = tt
+lows_if None None how = lows_plain how
+
+pub compares_plain : (f : Framed) (pushed : ℕ) (r : Relation) (kind : IntType) (a b : Typed) → LowsPlain (comparing_of f pushed r kind a b) (tested_by r b) (tested_by r a)
+compares_plain f pushed r kind a b = lows_if (tested_by r b) (tested_by r a) _

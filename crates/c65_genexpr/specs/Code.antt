@@ -2,7 +2,7 @@
 -- is free. A value stands in AX, or in EAX; of a place, and of a structure or
 -- union, the address. Of one that is passed or returned the bytes stand in A, X and sreg, as many as there are, the first in A.
 -- A test leads to its label where the truth is the one that is asked for, and else goes on.
-use Rattle.std.specs.Prelude.{ℕ, ◌+◌, ◌==◌, not, if◌then◌else◌, Bool, true, false, Option, Some, None, List, [], ◌∷◌, ◌++◌}
+use Rattle.std.specs.Prelude.{ℕ, ◌+◌, ◌==◌, ◌&&◌, not, if◌then◌else◌, Bool, true, false, Option, Some, None, List, [], ◌∷◌, ◌++◌}
 use Rattle.c65_base.specs.declared.operators.UnaryOp.{UnaryOp}
 use Rattle.c65_base.specs.declared.operators.BinaryOp.{BinaryOp}
 use Rattle.c65_base.specs.declared.operators.StepKind.{StepKind}
@@ -33,8 +33,9 @@ use Rattle.c65_gendirect.specs.declared.direct.Direct.{Direct}
 use Rattle.c65_gendirect.specs.declared.relation.Relation.{Relation}
 use Rattle.c65_gendirect.specs.Compare.{relation_of}
 use Rattle.c65_gendirect.specs.Tests.{zero_test_code, truth_code}
+use Rattle.c65_gendirect.specs.Words.{first_byte_code}
 use Rattle.c65_genexpr.specs.declared.destination.Destination.{Destination}
-use Rattle.c65_genexpr.specs.declared.destination.Destination.TheVariants.{Registers}
+use Rattle.c65_genexpr.specs.declared.destination.Destination.TheVariants.{Registers, Pointer}
 use Rattle.c65_genexpr.specs.declared.wanted.Wanted.{Wanted}
 use Rattle.c65_genexpr.specs.declared.wanted.Wanted.TheVariants.{Value, Test}
 use Rattle.c65_genexpr.specs.declared.operands.Operands.{Operands}
@@ -49,7 +50,9 @@ use Rattle.c65_genfield.specs.Bits.{byte_field}
 use Rattle.c65_genexpr.specs.Direct.{kept_at, own_bytes}
 use Rattle.c65_genexpr.specs.Destination.{arrived, destination_of, fetch_code}
 use Rattle.c65_genexpr.specs.Fields.{loaded_test}
-use Rattle.c65_genexpr.specs.Comparing.{relation_by, tested_by, comparing_of, below_side, comparison_by}
+use Rattle.c65_genexpr.specs.Comparing.{relation_by, tested_by, comparing_of, takes_low, low_code, below_side, comparison_by}
+use Rattle.c65_genexpr.specs.Elements.{element_at, element_or, loaded_element, element_byte_code}
+use Rattle.c65_genexpr.specs.Lows.{is_number, byte_in, low_operand, low_operand_or, behind_pointer, low_load_by}
 use Rattle.c65_genexpr.specs.Operating.{operating_of, below_operand, operator_by}
 use Rattle.c65_genexpr.specs.Storing.{storing_of, below_value, base_for, assigned_by}
 use Rattle.c65_genexpr.specs.Steps.{amount_of, step_code, open_code, close_code}
@@ -108,7 +111,9 @@ abbrev mutual
   node_code f pushed fresh w t (member e m) = wanted w (width_in t) (expr_code f pushed fresh Value e ++ offset_code (offset_at (types_of f.parts.types) (bare e) m))
   node_code f pushed fresh w t (load e) =
       let access = access_of (types_of f.parts.types) e in
-      load_by w (place_of f pushed e) access (base_code f pushed fresh (destination_of access) e)
+      element_or (element_at f e)
+      (λ x. loaded_element w x (index_code f pushed fresh e))
+      (load_by w (place_of f pushed e) access (base_code f pushed fresh (destination_of access) e))
   node_code f pushed fresh w t (address e) = wanted w (width_in t) (expr_code f pushed fresh Value e)
   node_code f pushed fresh w t (decay e) = wanted w (width_in t) (expr_code f pushed fresh Value e)
   node_code f pushed fresh w t (convert e) =
@@ -129,7 +134,7 @@ abbrev mutual
       let how = comparing_of f pushed q (computes operands) a b in
       let to = aimed w fresh in
       let own = inner w fresh in
-      truth_by w fresh (comparison_by how op operands (kind_in b) (sense w) to own (expr_code f pushed (own + 1) (wanted_by (tested_by q b) to) a) (expr_code f (below_side how pushed bytes) (own + 1 + uses (tested_by q b) a) (wanted_by (tested_by q a) to) b)))
+      truth_by w fresh (comparison_by how op operands (kind_in b) (sense w) to own (if takes_low how then low_value_code f pushed (own + 1) a else expr_code f pushed (own + 1) (wanted_by (tested_by q b) to) a) (if takes_low how then low_value_code f (below_side how pushed bytes) (own + 1 + uses (tested_by q b) a) b else expr_code f (below_side how pushed bytes) (own + 1 + uses (tested_by q b) a) (wanted_by (tested_by q a) to) b)))
   node_code f pushed fresh w t (both a b) =
       let straight = is_straight false (sense w) in
       let own = inner w fresh in
@@ -188,6 +193,32 @@ abbrev mutual
   pointer_base_code f pushed fresh d (node t (decay e)) = base_code f pushed fresh d e
   pointer_base_code f pushed fresh d (node t n) = node_code f pushed fresh Value t n ++ arrived d
 
+  -- the low byte of a value comes to A, and X is anything
+  pub low_value_code : Framed → ℕ → ℕ → Typed → List Line
+  low_value_code f pushed fresh (node t (convert e)) =
+      low_code (byte_in f pushed (node t (convert e))) (if is_number (types.type_in t) && is_number (bare e) then low_value_code f pushed fresh e else node_code f pushed fresh Value t (convert e))
+  low_value_code f pushed fresh (node t (binary op a b)) =
+      low_code (byte_in f pushed (node t (binary op a b)))
+      (low_operand_or (low_operand f pushed op a b)
+      (λ d. Label fresh ∷ (low_value_code f pushed (fresh + 1) a ++ first_byte_code op d))
+      (node_code f pushed fresh Value t (binary op a b)))
+  low_value_code f pushed fresh (node t (load e)) =
+      low_code (byte_in f pushed (node t (load e)))
+      (element_or (element_at f e)
+      (λ x. index_code f pushed fresh e ++ element_byte_code x.0)
+      (low_load_by (behind_pointer (place_of f pushed e) (access_of (types_of f.parts.types) e)) (base_code f pushed fresh Pointer e) (node_code f pushed fresh Value t (load e))))
+  low_value_code f pushed fresh (node t n) = low_code (byte_in f pushed (node t n)) (node_code f pushed fresh Value t n)
+
+  -- the index of an element of a small array: the low byte of it comes to A; the label of the sum is placed all the same
+  pub index_code : Framed → ℕ → ℕ → Typed → List Line
+  index_code f pushed fresh (node t (deref e)) = sum_index_code f pushed fresh e
+  index_code f pushed fresh (node t (member e m)) = index_code f pushed fresh e
+  index_code f pushed fresh (node t n) = []
+
+  pub sum_index_code : Framed → ℕ → ℕ → Typed → List Line
+  sum_index_code f pushed fresh (node t (binary op a b)) = Label fresh ∷ low_value_code f pushed (fresh + 1) b
+  sum_index_code f pushed fresh (node t n) = []
+
   -- arguments from left to right
   pub args_code : Framed → ℕ → ℕ → Bool → Nodes → List Line
   args_code f pushed fresh fast none = []
@@ -204,13 +235,17 @@ operator_code f pushed fresh d op a b =
     let how = operating_of f pushed op operands a b in
     operator_by d how op operands (kind_in b) fresh (expr_code f pushed (fresh + 1) Value a) (expr_code f (below_operand how pushed (waiting (width_of (computes operands)))) (fresh + 1 + uses None a) Value b)
 
+-- a side of a comparison, of which the low byte alone may be asked for
+abbrev pub side_code : Framed → ℕ → ℕ → Bool → Wanted → Typed → List Line
+side_code f pushed fresh low w e = if low then low_value_code f pushed fresh e else expr_code f pushed fresh w e
+
 -- where the truth of a comparison is s, to a label
 abbrev pub comparison_code : Framed → ℕ → ℕ → ℕ → Bool → BinaryOp → Relation → Typed → Typed → List Line
 comparison_code f pushed own to s op r a b =
     let operands = operands_of f (bare a) (bare b) in
     let q = relation_by s r in
     let how = comparing_of f pushed q (computes operands) a b in
-    comparison_by how op operands (kind_in b) s to own (expr_code f pushed (own + 1) (wanted_by (tested_by q b) to) a) (expr_code f (below_side how pushed (waiting (width_of (computes operands)))) (own + 1 + uses (tested_by q b) a) (wanted_by (tested_by q a) to) b)
+    comparison_by how op operands (kind_in b) s to own (side_code f pushed (own + 1) (takes_low how) (wanted_by (tested_by q b) to) a) (side_code f (below_side how pushed (waiting (width_of (computes operands)))) (own + 1 + uses (tested_by q b) a) (takes_low how) (wanted_by (tested_by q a) to) b)
 
 -- a unary operator whose value is wanted
 abbrev pub unary_value_code : Framed → ℕ → ℕ → UnaryOp → Typed → List Line
@@ -228,10 +263,36 @@ joint_code f pushed own to s stop a b =
     let first = own + way_labels straight in
     joined straight own (expr_code f pushed first (Test (way straight to own) stop) a) (expr_code f pushed (first + uses (Some stop) a) (Test to s) b)
 
-abbrev pub load_test_code : Framed → ℕ → ℕ → ℕ → Bool → Typed → List Line
-load_test_code f pushed fresh to s e =
+abbrev pub load_code : Framed → ℕ → ℕ → Wanted → Typed → List Line
+load_code f pushed fresh w e =
+    let access = access_of (types_of f.parts.types) e in
+    element_or (element_at f e) (λ x. loaded_element w x (index_code f pushed fresh e)) (load_by w (place_of f pushed e) access (base_code f pushed fresh (destination_of access) e))
+
+-- of one that is no element, a test
+abbrev pub kept_test_code : Framed → ℕ → ℕ → ℕ → Bool → Typed → List Line
+kept_test_code f pushed fresh to s e =
     let access = access_of (types_of f.parts.types) e in
     load_by (Test to s) (place_of f pushed e) access (base_code f pushed fresh (destination_of access) e)
+
+-- its low byte alone
+abbrev pub low_load_code : Framed → ℕ → ℕ → Typed → List Line
+low_load_code f pushed fresh e =
+    element_or (element_at f e)
+    (λ x. index_code f pushed fresh e ++ element_byte_code x.0)
+    (low_load_by (behind_pointer (place_of f pushed e) (access_of (types_of f.parts.types) e)) (base_code f pushed fresh Pointer e) (load_code f pushed fresh Value e))
+
+-- the low byte of what is computed, which is not read where it lies
+abbrev pub low_node_code : Framed → ℕ → ℕ → QTy → Node → List Line
+low_node_code f pushed fresh t (convert e) = if is_number (types.type_in t) && is_number (bare e) then low_value_code f pushed fresh e else node_code f pushed fresh Value t (convert e)
+low_node_code f pushed fresh t (binary op a b) = low_operand_or (low_operand f pushed op a b) (λ d. Label fresh ∷ (low_value_code f pushed (fresh + 1) a ++ first_byte_code op d)) (node_code f pushed fresh Value t (binary op a b))
+low_node_code f pushed fresh t (load e) =
+    element_or (element_at f e)
+    (λ x. index_code f pushed fresh e ++ element_byte_code x.0)
+    (low_load_by (behind_pointer (place_of f pushed e) (access_of (types_of f.parts.types) e)) (base_code f pushed fresh Pointer e) (node_code f pushed fresh Value t (load e)))
+low_node_code f pushed fresh t n = node_code f pushed fresh Value t n
+
+abbrev pub low_lines : Framed → ℕ → ℕ → Typed → List Line
+low_lines f pushed fresh (node t n) = low_node_code f pushed fresh t n
 
 -- the base of a part, so far behind the beginning
 abbrev pub part_base_code : Framed → ℕ → ℕ → Destination → ℕ → Typed → List Line

@@ -25,12 +25,12 @@ use Rattle.c65_genshift.specs.Shifts.{labelled}
 use Rattle.c65_genexpr.specs.declared.comparing.Side.{Side}
 use Rattle.c65_genexpr.specs.declared.comparing.Side.TheVariants.{Left, Right}
 use Rattle.c65_genexpr.specs.declared.comparing.Comparing.{Comparing}
-use Rattle.c65_genexpr.specs.declared.comparing.Comparing.TheVariants.{Truth, Byte, Whole, Held, Stacked}
+use Rattle.c65_genexpr.specs.declared.comparing.Comparing.TheVariants.{Truth, Byte, Whole, Held, HeldByte, Stacked}
 use Rattle.c65_genexpr.specs.declared.operands.Operands.{Operands}
 use Rattle.c65_genexpr.specs.Operands.{residue_of, between_code, behind_code}
 use Rattle.c65_genexpr.specs.Places.{more}
 use Rattle.c65_genexpr.specs.Direct.{sides_of, direct_of, is_fixed, is_pure, is_byte}
-use Rattle.c65_genexpr.specs.Held.{held_low, held_high, keep_code}
+use Rattle.c65_genexpr.specs.Held.{held_low, held_high, keep_code, keep_byte_code}
 use Rattle.c65_genexpr.specs.Operating.{is_light}
 use Rattle.c65_genexpr.specs.Wanted.{branch_code}
 
@@ -106,9 +106,9 @@ abbrev pub compared_by : Relation → Bool → IntType → Bool → Option Direc
 compared_by r bytes kind pure a b = if changes kind pure a b then beside Right (mirrored r) bytes kind b a else beside Left r bytes kind a b
 
 -- no side is read, and the right one is light: the left one waits in ptr2
-abbrev pub held_by : Bool → Width → Relation → IntType → Comparing
-held_by true Ax r kind = Held (mirrored r) (is_signed_of kind)
-held_by is_light width r kind = Stacked
+abbrev pub held_by : Bool → Bool → Width → Relation → IntType → Comparing
+held_by true bytes Ax r kind = if bytes then HeldByte (mirrored r) else Held (mirrored r) (is_signed_of kind)
+held_by is_light bytes width r kind = Stacked
 
 abbrev pub or_held : Comparing → Comparing → Comparing
 or_held Stacked held = held
@@ -119,7 +119,7 @@ abbrev pub comparing_of : Framed → ℕ → Relation → IntType → Typed → 
 comparing_of f pushed r kind a b =
     if is_some (tested_by r b) then Truth Left
     else (if is_some (tested_by r a) then Truth Right
-    else or_held (compared_by r (is_byte a && is_byte b) kind (is_pure b) (direct_of f pushed a) (direct_of f pushed b)) (held_by (is_light f pushed b) (width_of kind) r kind))
+    else or_held (compared_by r (is_byte a && is_byte b) kind (is_pure b) (direct_of f pushed a) (direct_of f pushed b)) (held_by (is_light f pushed b) (is_byte a && is_byte b) (width_of kind) r kind))
 
 -- ---- lines
 
@@ -132,6 +132,12 @@ abbrev pub low_code : Option OperandByte → List Line → List Line
 low_code None lines = lines
 low_code (Some d) lines = op_of Lda d
 
+-- whether of the sides only the low bytes are compared
+abbrev pub takes_low : Comparing → Bool
+takes_low (Byte side low r d) = true
+takes_low (HeldByte r) = true
+takes_low how = false
+
 -- the bytes that wait while the right side is computed: the left one has so many
 abbrev pub below_side : Comparing → ℕ → ℕ → ℕ
 below_side Stacked pushed bytes = more pushed bytes
@@ -143,5 +149,6 @@ comparison_by (Truth side) op operands right s to m a b = labelled m (on side a 
 comparison_by (Byte side low r d) op operands right s to m a b = labelled m (low_code low (on side a b) ++ compare_byte_code r d to)
 comparison_by (Whole side r is_signed sides) op operands right s to m a b = on side a b ++ compare_code r is_signed sides m to
 comparison_by (Held r is_signed) op operands right s to m a b = a ++ (keep_code ++ (b ++ compare_code r is_signed (Word held_low held_high) m to))
+comparison_by (HeldByte r) op operands right s to m a b = labelled m (a ++ (keep_byte_code ++ (b ++ compare_byte_code r held_low to)))
 comparison_by Stacked op operands right s to m a b =
     labelled m (a ++ (between_code operands ++ (b ++ (behind_code op operands right ++ (implied Tay ∷ branch_code s to)))))

@@ -22,6 +22,10 @@ held_high = Zero (ptr2 + 1)
 abbrev pub keep_code : List Line
 keep_code = zero_page Sta ptr2 ∷ zero_page Stx (ptr2 + 1) ∷ []
 
+-- A begins to wait
+abbrev pub keep_byte_code : List Line
+keep_byte_code = zero_page Sta ptr2 ∷ []
+
 -- A goes so far behind the address that waits
 abbrev pub byte_behind_code : ℕ → List Line
 byte_behind_code at = value Ldy at ∷ by_y Sta ptr2 ∷ []

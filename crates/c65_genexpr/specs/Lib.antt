@@ -4,9 +4,11 @@ pub mod Code
 pub mod Comparing
 pub mod Destination
 pub mod Direct
+pub mod Elements
 pub mod Fields
 pub mod Held
 pub mod Leaving
+pub mod Lows
 pub mod Operands
 pub mod Operating
 pub mod Places

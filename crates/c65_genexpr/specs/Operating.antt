@@ -1,6 +1,6 @@
 -- The operators that give a number or a pointer (C90 6.3.5 to 6.3.7, 6.3.10 to 6.3.12): their forms, and the lines of each from
 -- the lines of its two operands.
-use Rattle.std.specs.Prelude.{ℕ, ◌*◌, ◌%◌, nat_lt, nat_le, ◌==◌, ◌&&◌, ◌||◌, not, Bool, true, false, if◌then◌else◌, Option, Some, None, option_map, option_and_then, List, [], ◌∷◌, ◌++◌}
+use Rattle.std.specs.Prelude.{ℕ, ◌*◌, ◌%◌, nat_lt, nat_le, ◌==◌, ◌&&◌, ◌||◌, not, Bool, true, false, if◌then◌else◌, Option, Some, None, is_some, option_map, option_and_then, List, [], ◌∷◌, ◌++◌}
 use Rattle.c65_base.specs.declared.operators.BinaryOp.{BinaryOp}
 use Rattle.c65_base.specs.declared.operators.BinaryOp.TheVariants.{Add, Sub, BitAnd, BitXor, BitOr}
 use Rattle.c65_ints.specs.declared.types.IntType.{IntType}
@@ -34,6 +34,7 @@ use Rattle.c65_genshift.specs.Quick.{quick_of, quick_code, elements_code}
 use Rattle.c65_genshift.specs.Shifts.{labelled}
 use Rattle.c65_genexpr.specs.declared.destination.Destination.{Destination}
 use Rattle.c65_genexpr.specs.declared.destination.Destination.TheVariants.{Registers, Pointer}
+use Rattle.c65_genexpr.specs.declared.elements.Element.{Element}
 use Rattle.c65_genexpr.specs.declared.operands.Operands.{Operands}
 use Rattle.c65_genexpr.specs.declared.operands.Operands.TheVariants.{Numbers, PointerFirst, PointerLast, Pointers}
 use Rattle.c65_genexpr.specs.declared.operating.Form.{Form}
@@ -45,6 +46,7 @@ use Rattle.c65_genexpr.specs.Operands.{residue_of, negative, constant_in, operan
 use Rattle.c65_genexpr.specs.Types.{kind_of, kind_in, bare, access_of}
 use Rattle.c65_genexpr.specs.Places.{more, object_place, place_of}
 use Rattle.c65_genexpr.specs.Direct.{direct_of, is_fixed, is_pure}
+use Rattle.c65_genexpr.specs.Elements.{element_at, element_or, doublings}
 use Rattle.c65_genexpr.specs.Held.{held_low, held_high, keep_code}
 
 -- ---- a constant on the right
@@ -208,6 +210,10 @@ is_light_operator (Left form) a b = is_light_form form && a
 is_light_operator (Right form) a b = is_light_form form && b
 is_light_operator how a b = false
 
+-- an element, by its index: no routine makes bytes of the index, or a value of the byte
+abbrev pub is_light_element : Element × IntType → Bool
+is_light_element x = is_some (doublings x.0.size) && not (is_signed_char x.1)
+
 abbrev mutual
   pub is_light : Framed → ℕ → Typed → Bool
   is_light f pushed (node t (constant z)) = true
@@ -219,12 +225,25 @@ abbrev mutual
   is_light f pushed (node t (member e m)) = is_light f pushed e
   is_light f pushed (node t (address e)) = is_light f pushed e
   is_light f pushed (node t (decay e)) = is_light f pushed e
-  is_light f pushed (node t (load e)) = is_light_load (place_of f pushed e) (access_of (types_of f.parts.types) e) (is_light f pushed e)
+  is_light f pushed (node t (load e)) =
+      element_or (element_at f e)
+      (λ x. is_light_element x && is_light_index f pushed e)
+      (is_light_load (place_of f pushed e) (access_of (types_of f.parts.types) e) (is_light f pushed e))
   is_light f pushed (node t (step how e)) = is_light_step (place_of f pushed e) (access_of (types_of f.parts.types) e) (is_light f pushed e)
   is_light f pushed (node t (convert e)) = is_light_conversion (type_in t) (kind_in e) && is_light f pushed e
   is_light f pushed (node t (binary op a b)) =
       takes_bytes op && is_light_operator (reading_of f pushed op (operands_of f (bare a) (bare b)) a b) (is_light f pushed a) (is_light f pushed b)
   is_light f pushed (node t _) = false
+
+  -- the index of an element of a small array
+  pub is_light_index : Framed → ℕ → Typed → Bool
+  is_light_index f pushed (node t (deref e)) = is_light_sum f pushed e
+  is_light_index f pushed (node t (member e m)) = is_light_index f pushed e
+  is_light_index f pushed (node t _) = false
+
+  pub is_light_sum : Framed → ℕ → Typed → Bool
+  is_light_sum f pushed (node t (binary op a b)) = is_light f pushed b
+  is_light_sum f pushed (node t _) = false
 
 -- ---- a left operand that waits in ptr2 while the right one comes, which is light
 

@@ -67,6 +67,17 @@ abbrev mutual
   args_uses none = 0
   args_uses (some e es) = uses None e + args_uses es
 
+-- of the index of an element of a small array, and of its sum
+abbrev mutual
+  pub index_uses : Typed → ℕ
+  index_uses (node t (deref e)) = sum_index_uses e
+  index_uses (node t (member e m)) = index_uses e
+  index_uses (node t n) = 0
+
+  pub sum_index_uses : Typed → ℕ
+  sum_index_uses (node t (binary op a b)) = 1 + uses None b
+  sum_index_uses (node t n) = 0
+
 abbrev pub head_uses : Typed → ℕ
 head_uses f = unless_named (named f) (uses None f)
 

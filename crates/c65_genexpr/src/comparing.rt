@@ -1,7 +1,7 @@
 // The form of a comparison (C90 6.3.8, 6.3.9).
 ghost use Rattle.std.specs.Prelude.{◌≡◌, ◌&&◌};
 ghost use Rattle.c65_csem.specs.Views.{typed_of};
-ghost use Rattle.c65_genexpr.specs.Leaving.{ComparesFree};
+ghost use Rattle.c65_genexpr.specs.Leaving.{ComparesFree, LowsPlain};
 ghost use Rattle.c65_genexpr.specs.Direct.{direct_of, is_pure, is_byte};
 ghost use Rattle.c65_genexpr.specs.Comparing.{relation_by, is_zero, tested_by, lowest, is_raised, raised, one_more, range_of, meeting, beside, is_read, compared_by, held_by, comparing_of};
 ghost use Rattle.c65_genexpr.specs.Operating.{is_light};
@@ -35,6 +35,8 @@ pub enum Comparing {
     Whole(Side, Relation, bool, Sides),
     /// The left side waits in ptr2: how the right one, signed or not, stands to it.
     Held(Relation, bool),
+    /// The same of the low bytes of both.
+    HeldByte(Relation),
     /// The left side waits on the software stack.
     Stacked,
 }
@@ -198,13 +200,18 @@ fn held_by(
     pushed: u16,
     relation: Relation,
     kind: IntType,
+    a: &TExpr,
     b: &TExpr,
 ) -> Comparing
-    ensures { result ≡ held_by (is_light frame.now pushed (typed_of b.now)) (width_of kind) relation kind }
+    ensures { result ≡ held_by (is_light frame.now pushed (typed_of b.now)) (is_byte (typed_of a.now) && is_byte (typed_of b.now)) (width_of kind) relation kind }
 {
     match width_of(kind) {
         Width::Ax if is_light(frame, pushed, b) => {
-            Comparing::Held(relation.mirrored(), kind.is_signed())
+            if is_byte(a) && is_byte(b) {
+                Comparing::HeldByte(relation.mirrored())
+            } else {
+                Comparing::Held(relation.mirrored(), kind.is_signed())
+            }
         }
         _ => Comparing::Stacked,
     }
@@ -226,13 +233,14 @@ fn form_of(
         Comparing::Truth(Side::Right)
     } else {
         match compared_by(frame, pushed, relation, kind, a, b) {
-            Comparing::Stacked => held_by(frame, pushed, relation, kind, b),
+            Comparing::Stacked => held_by(frame, pushed, relation, kind, a, b),
             how => how,
         }
     }
 }
 
-/// How two sides are compared in a type. A side that is left out has no labels.
+/// How two sides are compared in a type. A side that is left out has no labels; none is tested of which the low byte
+/// alone is had.
 pub fn comparing_of(
     frame: &Frame<'_>,
     pushed: u16,
@@ -243,6 +251,7 @@ pub fn comparing_of(
 ) -> Comparing
     ensures exact { result ≡ comparing_of frame.now pushed relation kind (typed_of a.now) (typed_of b.now) }
     ensures free { ComparesFree result (tested_by relation (typed_of b.now)) (typed_of a.now) (tested_by relation (typed_of a.now)) (typed_of b.now) }
+    ensures plain { LowsPlain result (tested_by relation (typed_of b.now)) (tested_by relation (typed_of a.now)) }
 {
     form_of(frame, pushed, relation, kind, a, b)
 }

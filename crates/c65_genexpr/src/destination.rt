@@ -2,6 +2,7 @@
 ghost use Rattle.std.specs.Prelude.{◌≡◌, OnOk, OnErr};
 ghost use Rattle.c65_genwide.specs.Lines.{with_lines, Keeps};
 ghost use Rattle.c65_genload.specs.declared.places.Access.TheVariants.{Whole};
+ghost use Rattle.c65_genexpr.specs.Lows.{behind_pointer};
 ghost use Rattle.c65_genexpr.specs.Destination.{arrived, destination_by, destination_of, pointed_code, fetch_by, fetch_code};
 
 use c65_code::Draft;
@@ -45,6 +46,16 @@ pub fn destination_of(access: Access) -> Destination
     match access {
         Access::Whole(kind) => destination_by(extent_of(kind)),
         Access::Part(_) => Destination::Registers,
+    }
+}
+
+/// How far behind ptr1 one byte or two lie that are kept anywhere.
+pub fn behind_pointer(place: Place, access: Access) -> Option<u8>
+    ensures { result ≡ behind_pointer place access }
+{
+    match (place, destination_of(access)) {
+        (Place::Far(at), Destination::Pointer) => Some(at),
+        (_, _) => None,
     }
 }
 

@@ -5,10 +5,11 @@ ghost use Rattle.c65_genwide.specs.Lines.{grown, Keeps};
 ghost use Rattle.c65_genexpr.specs.Arguments.{passed_of};
 ghost use Rattle.c65_genexpr.specs.Wanted.{sense_of, is_straight, way_labels};
 ghost use Rattle.c65_genexpr.specs.declared.wanted.Wanted.TheVariants.{Value, Test};
-ghost use Rattle.c65_genexpr.specs.Comparing.{on, relation_by};
+ghost use Rattle.c65_genexpr.specs.Comparing.{on, low_code, relation_by};
 ghost use Rattle.c65_genexpr.specs.Leaving.{IsFree};
-ghost use Rattle.c65_genexpr.specs.Uses.{uses, head_uses, args_uses, unary_uses, comparison_uses};
-ghost use Rattle.c65_genexpr.specs.Code.{expr_code, base_code, base_lines, part_base_code, pointer_base_code, pointer_lines, pointer_labels, load_test_code, plain_test_code, unary_value_code, operator_code, comparison_code, joint_code, choice_code, assign_code, step_value_code, compound_code, call_code, args_code};
+ghost use Rattle.c65_genexpr.specs.Lows.{byte_in};
+ghost use Rattle.c65_genexpr.specs.Uses.{uses, index_uses, sum_index_uses, head_uses, args_uses, unary_uses, comparison_uses};
+ghost use Rattle.c65_genexpr.specs.Code.{expr_code, base_code, base_lines, part_base_code, pointer_base_code, pointer_lines, pointer_labels, load_code, kept_test_code, low_load_code, low_value_code, low_lines, index_code, sum_index_code, plain_test_code, unary_value_code, operator_code, comparison_code, joint_code, choice_code, assign_code, step_value_code, compound_code, call_code, args_code};
 
 use crate::arguments::Passed;
 use crate::arguments::argument_bytes;
@@ -29,15 +30,26 @@ use crate::comparing::relation_by;
 use crate::comparing::tested_by;
 use crate::constants::residue_of;
 use crate::destination::Destination;
+use crate::destination::behind_pointer;
 use crate::destination::destination_of;
 use crate::destination::put_arrived;
 use crate::destination::put_fetch;
 use crate::direct::kept_at;
 use crate::direct::put_own_test;
+use crate::elements::byte_in;
+use crate::elements::element_at;
+use crate::elements::is_number;
+use crate::elements::low_operand;
+use crate::elements::put_element_byte;
+use crate::elements::put_element_test;
+use crate::elements::put_element_value;
+use crate::elements::put_low_operator;
 use crate::fields::put_loaded_test;
+use crate::held::held_low;
 use crate::held::held_word;
 use crate::held::put_byte_behind;
 use crate::held::put_keep;
+use crate::held::put_keep_byte;
 use crate::held::put_word_behind;
 use crate::leaving;
 use crate::operands::Operands;
@@ -88,6 +100,7 @@ use c65_code::Width;
 use c65_csem::TExpr;
 use c65_csem::TKind;
 use c65_gendirect::Relation;
+use c65_gendirect::put_behind_pointer;
 use c65_gendirect::put_byte_through;
 use c65_gendirect::put_compare;
 use c65_gendirect::put_compare_byte;
@@ -97,6 +110,7 @@ use c65_gendirect::put_truth;
 use c65_gendirect::put_word_through;
 use c65_gendirect::relation_of;
 use c65_genframe::Frame;
+use c65_genload::Extent;
 use c65_genload::copy;
 use c65_genload::extent_by;
 use c65_genload::held;
@@ -140,12 +154,7 @@ pub fn put_expr(
             put_expr(a, frame, pushed, draft)?;
             put_offset(offset_at(&frame.parts().types, &a.ty.ty, *member), draft)
         }
-        TKind::Load(a) => {
-            let place = place_of(frame, pushed, a);
-            let access = access_of(&frame.parts().types, a);
-            put_base(a, destination_of(access), frame, pushed, draft)?;
-            put_fetch(place, access, draft)
-        }
+        TKind::Load(a) => put_load_value(a, frame, pushed, draft),
         TKind::Convert(a) => {
             put_expr(a, frame, pushed, draft)?;
             put_conversion(&e.ty.ty, kind_of(&a.ty.ty), draft)
@@ -265,16 +274,14 @@ pub fn put_test(
         | TKind::Address(_)
         | TKind::Decay(_)
         | TKind::Cond(_, _, _) => put_plain_test(e, frame, pushed, to, sense, draft),
-        // what is changed, copied, called for or passed
+        // what is changed
         TKind::Assign(_, _)
         | TKind::AssignOp(_, _, _, _)
         | TKind::AssignStep(_, _, _)
-        | TKind::Step(_, _)
-        | TKind::Copy(_, _)
-        | TKind::Call(_, _)
-        | TKind::Pack(_)
-        | TKind::Spill(_, _)
-        | TKind::Rest => put_plain_test(e, frame, pushed, to, sense, draft),
+        | TKind::Step(_, _) => put_plain_test(e, frame, pushed, to, sense, draft),
+        // what is copied, called for or passed
+        TKind::Copy(_, _) | TKind::Call(_, _) | TKind::Pack(_) | TKind::Spill(_, _) | TKind::Rest =>
+            put_plain_test(e, frame, pushed, to, sense, draft),
     }
 }
 
@@ -354,26 +361,30 @@ fn put_base_by(
         | TKind::Func(_)
         | TKind::Load(_)
         | TKind::Address(_)
-        | TKind::Decay(_)
-        | TKind::Convert(_)
-        | TKind::Unary(_, _)
-        | TKind::Binary(_, _, _)
-        | TKind::And(_, _)
-        | TKind::Or(_, _)
-        | TKind::Cond(_, _, _)
-        | TKind::Comma(_, _)
-        | TKind::Assign(_, _)
-        | TKind::AssignOp(_, _, _, _)
-        | TKind::AssignStep(_, _, _)
-        | TKind::Step(_, _)
-        | TKind::Copy(_, _)
-        | TKind::Call(_, _)
-        | TKind::Pack(_)
-        | TKind::Spill(_, _)
-        | TKind::Rest => {
+        | TKind::Decay(_) => {
             put_expr(a, frame, pushed, draft)?;
             put_arrived(destination, draft)
         }
+        TKind::Convert(_) | TKind::Unary(_, _) | TKind::Binary(_, _, _) => {
+            put_expr(a, frame, pushed, draft)?;
+            put_arrived(destination, draft)
+        }
+        TKind::And(_, _) | TKind::Or(_, _) | TKind::Cond(_, _, _) | TKind::Comma(_, _) => {
+            put_expr(a, frame, pushed, draft)?;
+            put_arrived(destination, draft)
+        }
+        TKind::Assign(_, _)
+        | TKind::AssignOp(_, _, _, _)
+        | TKind::AssignStep(_, _, _)
+        | TKind::Step(_, _) => {
+            put_expr(a, frame, pushed, draft)?;
+            put_arrived(destination, draft)
+        }
+        TKind::Copy(_, _) | TKind::Call(_, _) | TKind::Pack(_) | TKind::Spill(_, _) | TKind::Rest =>
+            {
+                put_expr(a, frame, pushed, draft)?;
+                put_arrived(destination, draft)
+            }
     }
 }
 
@@ -444,31 +455,206 @@ fn put_pointer_by(
         TKind::Address(place) | TKind::Decay(place) => {
             put_base(place, destination, frame, pushed, draft)
         }
-        TKind::Const(_)
-        | TKind::Null
-        | TKind::Literal(_)
-        | TKind::Object(_)
-        | TKind::Func(_)
-        | TKind::Load(_)
-        | TKind::Convert(_)
-        | TKind::Unary(_, _)
-        | TKind::And(_, _)
-        | TKind::Or(_, _)
-        | TKind::Cond(_, _, _)
-        | TKind::Comma(_, _)
-        | TKind::Assign(_, _)
-        | TKind::AssignOp(_, _, _, _)
-        | TKind::AssignStep(_, _, _)
-        | TKind::Step(_, _)
-        | TKind::Copy(_, _)
-        | TKind::Call(_, _)
-        | TKind::Pack(_)
-        | TKind::Spill(_, _)
-        | TKind::Rest
-        | TKind::Deref(_)
-        | TKind::Member(_, _) => {
+        TKind::Const(_) | TKind::Null | TKind::Literal(_) | TKind::Object(_) | TKind::Func(_) => {
             put_expr(e, frame, pushed, draft)?;
             put_arrived(destination, draft)
+        }
+        TKind::Load(_)
+        | TKind::Deref(_)
+        | TKind::Member(_, _)
+        | TKind::Convert(_)
+        | TKind::Unary(_, _) => {
+            put_expr(e, frame, pushed, draft)?;
+            put_arrived(destination, draft)
+        }
+        TKind::And(_, _) | TKind::Or(_, _) | TKind::Cond(_, _, _) | TKind::Comma(_, _) => {
+            put_expr(e, frame, pushed, draft)?;
+            put_arrived(destination, draft)
+        }
+        TKind::Assign(_, _)
+        | TKind::AssignOp(_, _, _, _)
+        | TKind::AssignStep(_, _, _)
+        | TKind::Step(_, _) => {
+            put_expr(e, frame, pushed, draft)?;
+            put_arrived(destination, draft)
+        }
+        TKind::Copy(_, _) | TKind::Call(_, _) | TKind::Pack(_) | TKind::Spill(_, _) | TKind::Rest =>
+            {
+                put_expr(e, frame, pushed, draft)?;
+                put_arrived(destination, draft)
+            }
+    }
+}
+
+/// Puts the lines that bring the low byte of a value to A, where so many bytes wait; X is anything.
+#[cycle(expression)]
+pub fn put_low(
+    e: &TExpr,
+    frame: &Frame<'_>,
+    pushed: u16,
+    draft: &mut Draft,
+) -> Result<(), AllocError>
+    ensures lines { OnOk result (draft.new ≡ grown draft.old (low_value_code frame.now pushed draft.old.labels (typed_of e.now)) (uses None (typed_of e.now))) }
+    ensures kept { OnErr result (Keeps draft.old draft.new) }
+{
+    put_low_read(e, frame, pushed, draft)
+}
+
+// Of a number that is read where it lies only that byte.
+#[cycle(expression)]
+fn put_low_read(
+    e: &TExpr,
+    frame: &Frame<'_>,
+    pushed: u16,
+    draft: &mut Draft,
+) -> Result<(), AllocError>
+    ensures lines { OnOk result (draft.new ≡ grown draft.old (low_code (byte_in frame.now pushed (typed_of e.now)) (low_lines frame.now pushed draft.old.labels (typed_of e.now))) (uses None (typed_of e.now))) }
+    ensures kept { OnErr result (Keeps draft.old draft.new) }
+{
+    match byte_in(frame, pushed, e) {
+        Some(byte) => {
+            leaving::leave_out(e, Wanted::Value, draft)?;
+            put_op(Lda, byte, draft)
+        }
+        None => put_low_by(e, frame, pushed, draft),
+    }
+}
+
+// Of what is computed, the low byte of what its low byte depends on.
+#[cycle(expression)]
+fn put_low_by(
+    e: &TExpr,
+    frame: &Frame<'_>,
+    pushed: u16,
+    draft: &mut Draft,
+) -> Result<(), AllocError>
+    ensures lines { OnOk result (draft.new ≡ grown draft.old (low_lines frame.now pushed draft.old.labels (typed_of e.now)) (uses None (typed_of e.now))) }
+    ensures kept { OnErr result (Keeps draft.old draft.new) }
+{
+    match &e.kind {
+        TKind::Convert(a) => {
+            if is_number(&e.ty.ty) && is_number(&a.ty.ty) {
+                put_low(a, frame, pushed, draft)
+            } else {
+                put_expr(e, frame, pushed, draft)
+            }
+        }
+        TKind::Binary(op, a, b) => match low_operand(frame, pushed, *op, a, b) {
+            Some(byte) => {
+                leaving::leave_sum(draft)?;
+                put_low(a, frame, pushed, draft)?;
+                leaving::leave_out(b, Wanted::Value, draft)?;
+                put_low_operator(*op, byte, draft)
+            }
+            None => put_expr(e, frame, pushed, draft),
+        },
+        TKind::Load(a) => put_low_load(a, frame, pushed, draft),
+        TKind::Const(_) | TKind::Null | TKind::Literal(_) | TKind::Object(_) | TKind::Func(_) =>
+            put_expr(e, frame, pushed, draft),
+        TKind::Deref(_)
+        | TKind::Member(_, _)
+        | TKind::Address(_)
+        | TKind::Decay(_)
+        | TKind::Unary(_, _) => put_expr(e, frame, pushed, draft),
+        TKind::And(_, _) | TKind::Or(_, _) | TKind::Cond(_, _, _) | TKind::Comma(_, _) => put_expr(
+            e, frame, pushed, draft,
+        ),
+        TKind::Assign(_, _)
+        | TKind::AssignOp(_, _, _, _)
+        | TKind::AssignStep(_, _, _)
+        | TKind::Step(_, _) => put_expr(e, frame, pushed, draft),
+        TKind::Copy(_, _) | TKind::Call(_, _) | TKind::Pack(_) | TKind::Spill(_, _) | TKind::Rest =>
+            put_expr(e, frame, pushed, draft),
+    }
+}
+
+// Of a number that is kept anywhere its low byte alone.
+#[cycle(expression)]
+fn put_low_load(
+    a: &TExpr,
+    frame: &Frame<'_>,
+    pushed: u16,
+    draft: &mut Draft,
+) -> Result<(), AllocError>
+    ensures lines { OnOk result (draft.new ≡ grown draft.old (low_load_code frame.now pushed draft.old.labels (typed_of a.now)) (uses None (typed_of a.now))) }
+    ensures kept { OnErr result (Keeps draft.old draft.new) }
+{
+    match element_at(frame, a) {
+        Some((element, _)) => {
+            put_index(a, frame, pushed, draft)?;
+            put_element_byte(element, draft)
+        }
+        None => {
+            let place = place_of(frame, pushed, a);
+            let access = access_of(&frame.parts().types, a);
+            match behind_pointer(place, access) {
+                Some(at) => {
+                    put_base(a, Destination::Pointer, frame, pushed, draft)?;
+                    put_behind_pointer(at, Extent::One, draft)
+                }
+                None => put_load_value(a, frame, pushed, draft),
+            }
+        }
+    }
+}
+
+// The index of an element of a small array: the low byte of it comes to A.
+#[cycle(expression)]
+pub fn put_index(
+    e: &TExpr,
+    frame: &Frame<'_>,
+    pushed: u16,
+    draft: &mut Draft,
+) -> Result<(), AllocError>
+    ensures lines { OnOk result (draft.new ≡ grown draft.old (index_code frame.now pushed draft.old.labels (typed_of e.now)) (index_uses (typed_of e.now))) }
+    ensures kept { OnErr result (Keeps draft.old draft.new) }
+{
+    match &e.kind {
+        TKind::Deref(sum) => put_sum_index(sum, frame, pushed, draft),
+        TKind::Member(base, _) => put_index(base, frame, pushed, draft),
+        _ => put(draft, &[]),
+    }
+}
+
+#[cycle(expression)]
+fn put_sum_index(
+    e: &TExpr,
+    frame: &Frame<'_>,
+    pushed: u16,
+    draft: &mut Draft,
+) -> Result<(), AllocError>
+    ensures lines { OnOk result (draft.new ≡ grown draft.old (sum_index_code frame.now pushed draft.old.labels (typed_of e.now)) (sum_index_uses (typed_of e.now))) }
+    ensures kept { OnErr result (Keeps draft.old draft.new) }
+{
+    match &e.kind {
+        TKind::Binary(_, _, index) => {
+            leaving::leave_sum(draft)?;
+            put_low(index, frame, pushed, draft)
+        }
+        _ => put(draft, &[]),
+    }
+}
+
+#[cycle(expression)]
+fn put_load_value(
+    a: &TExpr,
+    frame: &Frame<'_>,
+    pushed: u16,
+    draft: &mut Draft,
+) -> Result<(), AllocError>
+    ensures lines { OnOk result (draft.new ≡ grown draft.old (load_code frame.now pushed draft.old.labels Value (typed_of a.now)) (uses None (typed_of a.now))) }
+    ensures kept { OnErr result (Keeps draft.old draft.new) }
+{
+    match element_at(frame, a) {
+        Some((element, kind)) => {
+            put_index(a, frame, pushed, draft)?;
+            put_element_value(element, kind, draft)
+        }
+        None => {
+            let place = place_of(frame, pushed, a);
+            let access = access_of(&frame.parts().types, a);
+            put_base(a, destination_of(access), frame, pushed, draft)?;
+            put_fetch(place, access, draft)
         }
     }
 }
@@ -483,7 +669,29 @@ fn put_load_test(
     sense: bool,
     draft: &mut Draft,
 ) -> Result<(), AllocError>
-    ensures lines { OnOk result (draft.new ≡ grown draft.old (load_test_code frame.now pushed draft.old.labels to sense (typed_of a.now)) (uses None (typed_of a.now))) }
+    ensures lines { OnOk result (draft.new ≡ grown draft.old (load_code frame.now pushed draft.old.labels (Test to sense) (typed_of a.now)) (uses None (typed_of a.now))) }
+    ensures kept { OnErr result (Keeps draft.old draft.new) }
+{
+    match element_at(frame, a) {
+        Some((element, kind)) => {
+            put_index(a, frame, pushed, draft)?;
+            put_element_test(element, kind, sense, to, draft)
+        }
+        None => put_kept_test(a, frame, pushed, to, sense, draft),
+    }
+}
+
+// The same of any other number.
+#[cycle(expression)]
+fn put_kept_test(
+    a: &TExpr,
+    frame: &Frame<'_>,
+    pushed: u16,
+    to: u32,
+    sense: bool,
+    draft: &mut Draft,
+) -> Result<(), AllocError>
+    ensures lines { OnOk result (draft.new ≡ grown draft.old (kept_test_code frame.now pushed draft.old.labels to sense (typed_of a.now)) (uses None (typed_of a.now))) }
     ensures kept { OnErr result (Keeps draft.old draft.new) }
 {
     let place = place_of(frame, pushed, a);
@@ -595,7 +803,7 @@ fn put_comparison(
             put(draft, &[Label(own)])
         }
         Comparing::Byte(side, None, relation, byte) => {
-            put_side(side, a, left, b, right, frame, pushed, draft)?;
+            put_low_side(side, a, b, frame, pushed, draft)?;
             put_compare_byte(relation, byte, to, draft)?;
             put(draft, &[Label(own)])
         }
@@ -615,6 +823,13 @@ fn put_comparison(
             put_keep(draft)?;
             put_wanted(b, right, frame, pushed, draft)?;
             put_compare(relation, is_signed, held_word(), own, to, draft)
+        }
+        Comparing::HeldByte(relation) => {
+            put_low(a, frame, pushed, draft)?;
+            put_keep_byte(draft)?;
+            put_low(b, frame, pushed, draft)?;
+            put_compare_byte(relation, held_low(), to, draft)?;
+            put(draft, &[Label(own)])
         }
         Comparing::Stacked => {
             let wait = waiting(width_of(computes(operands)));
@@ -652,6 +867,32 @@ fn put_side(
         Side::Right => {
             leaving::leave_out(a, left, draft)?;
             put_wanted(b, right, frame, pushed, draft)
+        }
+    }
+}
+
+// The low byte of one of two sides; the other one is read where it lies.
+#[cycle(expression)]
+fn put_low_side(
+    side: Side,
+    a: &TExpr,
+    b: &TExpr,
+    frame: &Frame<'_>,
+    pushed: u16,
+    draft: &mut Draft,
+) -> Result<(), AllocError>
+    requires { IsFree side None (typed_of a.now) None (typed_of b.now) }
+    ensures lines { OnOk result (draft.new ≡ grown draft.old (on side (low_value_code frame.now pushed draft.old.labels (typed_of a.now)) (low_value_code frame.now pushed (draft.old.labels + uses None (typed_of a.now)) (typed_of b.now))) (uses None (typed_of a.now) + uses None (typed_of b.now))) }
+    ensures kept { OnErr result (Keeps draft.old draft.new) }
+{
+    match side {
+        Side::Left => {
+            put_low(a, frame, pushed, draft)?;
+            leaving::leave_out(b, Wanted::Value, draft)
+        }
+        Side::Right => {
+            leaving::leave_out(a, Wanted::Value, draft)?;
+            put_low(b, frame, pushed, draft)
         }
     }
 }

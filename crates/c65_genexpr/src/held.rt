@@ -2,7 +2,7 @@
 ghost use Rattle.std.specs.Prelude.{◌≡◌, OnOk, OnErr};
 ghost use Rattle.c65_gendirect.specs.declared.compare.Sides.TheVariants.{Word};
 ghost use Rattle.c65_genwide.specs.Lines.{with_lines, Keeps};
-ghost use Rattle.c65_genexpr.specs.Held.{held_low, held_high, keep_code, byte_behind_code, word_behind_code};
+ghost use Rattle.c65_genexpr.specs.Held.{held_low, held_high, keep_code, keep_byte_code, byte_behind_code, word_behind_code};
 
 use c65_code::Draft;
 use c65_code::Line::Do;
@@ -49,6 +49,14 @@ pub fn put_keep(draft: &mut Draft) -> Result<(), AllocError>
             Do(Stx, ZeroPage, Zero(PTR2 + 1)),
         ],
     )
+}
+
+/// A begins to wait.
+pub fn put_keep_byte(draft: &mut Draft) -> Result<(), AllocError>
+    ensures lines { OnOk result (draft.new ≡ with_lines draft.old keep_byte_code) }
+    ensures kept { OnErr result (Keeps draft.old draft.new) }
+{
+    put(draft, &[Do(Sta, ZeroPage, Zero(PTR2))])
 }
 
 /// A goes so far behind the address that waits.

@@ -2,8 +2,9 @@
 ghost use Rattle.std.specs.Prelude.{◌≡◌};
 ghost use Rattle.c65_ctype.specs.Views.{ty_of};
 ghost use Rattle.c65_csem.specs.Views.{typed_of};
-ghost use Rattle.c65_genexpr.specs.Operating.{takes_bytes, is_signed_char, is_light_form, is_light_place, is_light_access, is_light_extent, is_light_load, is_light_target, is_light_step, is_light_conversion, is_light};
+ghost use Rattle.c65_genexpr.specs.Operating.{takes_bytes, is_signed_char, is_light_form, is_light_place, is_light_access, is_light_extent, is_light_load, is_light_target, is_light_step, is_light_conversion, is_light_element, is_light_index, is_light_sum, is_light};
 
+use crate::elements::{Element, doublings, element_at};
 use crate::operands::operands_of;
 use crate::operating::{Form, Operating, reading_of};
 use crate::places::{object_place, place_of};
@@ -134,7 +135,37 @@ fn is_light_conversion(to: &CType, from: IntType) -> bool
     }
 }
 
+// An element, by its index: no routine makes bytes of the index, or a value of the byte.
+fn is_light_element(element: Element, kind: IntType) -> bool
+    ensures { result ≡ is_light_element (element, kind) }
+{
+    doublings(element.size).is_some() && !is_signed_char(kind)
+}
+
+// The index of an element of a small array.
+#[cycle(light)]
+pub fn is_light_index(frame: &Frame<'_>, pushed: u16, e: &TExpr) -> bool
+    ensures { result ≡ is_light_index frame.now pushed (typed_of e.now) }
+{
+    match &e.kind {
+        TKind::Deref(sum) => is_light_sum(frame, pushed, sum),
+        TKind::Member(base, _) => is_light_index(frame, pushed, base),
+        _ => false,
+    }
+}
+
+#[cycle(light)]
+fn is_light_sum(frame: &Frame<'_>, pushed: u16, e: &TExpr) -> bool
+    ensures { result ≡ is_light_sum frame.now pushed (typed_of e.now) }
+{
+    match &e.kind {
+        TKind::Binary(_, _, index) => is_light(frame, pushed, index),
+        _ => false,
+    }
+}
+
 /// Whether an expression is light, where so many bytes wait.
+#[cycle(light)]
 pub fn is_light(frame: &Frame<'_>, pushed: u16, e: &TExpr) -> bool
     ensures { result ≡ is_light frame.now pushed (typed_of e.now) }
 {
@@ -144,11 +175,16 @@ pub fn is_light(frame: &Frame<'_>, pushed: u16, e: &TExpr) -> bool
         TKind::Deref(a) | TKind::Member(a, _) | TKind::Address(a) | TKind::Decay(a) => {
             is_light(frame, pushed, a)
         }
-        TKind::Load(a) => is_light_load(
-            place_of(frame, pushed, a),
-            access_of(&frame.parts().types, a),
-            is_light(frame, pushed, a),
-        ),
+        TKind::Load(a) => match element_at(frame, a) {
+            Some((element, kind)) => {
+                is_light_element(element, kind) && is_light_index(frame, pushed, a)
+            }
+            None => is_light_load(
+                place_of(frame, pushed, a),
+                access_of(&frame.parts().types, a),
+                is_light(frame, pushed, a),
+            ),
+        },
         TKind::Step(_, a) => is_light_step(
             place_of(frame, pushed, a),
             access_of(&frame.parts().types, a),

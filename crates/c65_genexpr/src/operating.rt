@@ -197,7 +197,8 @@ fn left_form(op: BinaryOp, operands: Operands, low: OperandByte, high: OperandBy
     }
 }
 
-fn constant_right(op: BinaryOp, operands: Operands, b: &TExpr) -> Option<Form>
+/// A constant on the right.
+pub fn constant_right(op: BinaryOp, operands: Operands, b: &TExpr) -> Option<Form>
     ensures { result ≡ constant_right op operands (typed_of b.now) }
 {
     let z = constant_in(b)?;

@@ -1,4 +1,5 @@
 pub mod Answering
 pub mod Counts
 pub mod Drafts
+pub mod Lasts
 pub mod Loops

@@ -1,5 +1,5 @@
 -- The lines of a function (C90 6.7.1; docs/MACHINE.md, "Calls").
-use Rattle.std.specs.Prelude.{ℕ, ◌==◌, Bool, if◌then◌else◌, Option, None, Some, option_map, slice_get, Result, Ok, Err, List, [], ◌∷◌}
+use Rattle.std.specs.Prelude.{ℕ, ◌==◌, ◌&&◌, not, Bool, false, if◌then◌else◌, Option, None, Some, option_map, slice_get, Result, Ok, Err, List, [], ◌∷◌}
 use Rattle.c65_base.specs.declared.refusal.Size.TheVariants as sizes
 use Rattle.c65_base.specs.Answers.{Fault, large, ◌>>=◌}
 use Rattle.c65_ctype.specs.Trees.{type_in}
@@ -21,7 +21,7 @@ use Rattle.c65_genentry.specs.Drafts.{with_labels}
 use Rattle.c65_genentry.specs.Entry.{entry_code}
 use Rattle.c65_genentry.specs.Ends.{end_code}
 use Rattle.c65_genstmt.specs.Cases.{room_of}
-use Rattle.c65_genstmt.specs.Stmts.{ways, with_label, with_stmt}
+use Rattle.c65_genstmt.specs.Stmts.{ways, with_label, with_last, returns_last}
 
 -- what a function gives, by the type of its result
 abbrev pub gives_of : Parts → FuncTy → RegSet
@@ -33,7 +33,12 @@ body_room (Some body) = room_of body
 
 abbrev pub with_body : Framed → Option Stmt → Drafted → Drafted
 with_body f None d = d
-with_body f (Some body) d = with_stmt f (ways 0 0 0) 0 body d
+with_body f (Some body) d = with_last f (ways 0 0 0) 0 body d
+
+-- whether a return stands at its end
+abbrev pub body_returns : Option Stmt → Bool
+body_returns None = false
+body_returns (Some body) = returns_last body
 
 -- reaching the end of main returns 0 (C90 5.1.2.2.3)
 abbrev pub main_code : Bool → List Line
@@ -43,7 +48,7 @@ main_code is_main = if is_main then value Ldx 0 ∷ value Lda 0 ∷ [] else []
 abbrev pub with_function : Framed → Bool → Option Stmt → Drafted → Drafted
 with_function f is_main body d =
     let e = with_body f body (with_lines (with_labels (body_room body) (with_labels 1 d)) (entry_code f)) in
-    with_lines (with_label d.labels (with_lines e (main_code is_main))) (end_code f)
+    with_lines (with_label d.labels (with_lines e (main_code (is_main && not (body_returns body))))) (end_code f)
 
 abbrev pub no_lines : RegSet → Drafted
 no_lines out = record { lines = []; labels = 0; out = out }

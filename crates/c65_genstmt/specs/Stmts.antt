@@ -1,6 +1,6 @@
 -- Statements as lines (C90 6.6): what becomes of a draft. Where jumps lead is given; l is the label of the next case of the
 -- innermost switch.
-use Rattle.std.specs.Prelude.{ℕ, ℤ, ◌+◌, List, true, false, if◌then◌else◌, [], ◌∷◌, length}
+use Rattle.std.specs.Prelude.{ℕ, ℤ, ◌+◌, Bool, List, true, false, if◌then◌else◌, [], ◌∷◌, length}
 use Rattle.c65_csem.specs.Trees.{Typed, MaybeTyped, absent, present, Stmt, empty, eval, set_part, clear, block, if_stmt, while, do_while, for_loop, switch, case, default, label, goto, break, continue, return, Stmts, no_stmts, and_stmts}
 use Rattle.c65_csem.specs.Statements.{cases_of}
 use Rattle.c65_mach.specs.declared.rows.Op.TheVariants.{Jmp}
@@ -44,6 +44,14 @@ with_label l d = with_lines d (Label l ∷ [])
 
 abbrev pub with_jump : ℕ → Drafted → Drafted
 with_jump l d = with_lines d (jump Jmp l ∷ [])
+
+-- where nothing stands between, no jump is needed
+abbrev pub is_empty : Stmt → Bool
+is_empty empty = true
+is_empty a = false
+
+abbrev pub with_way : Bool → ℕ → Drafted → Drafted
+with_way at l d = if at then d else with_jump l d
 
 -- two labels that were not given before, and three
 abbrev pub two_given : Drafted → Drafted
@@ -95,7 +103,7 @@ abbrev mutual
   with_stmt f w l (block os ss) d = with_stmts f w l ss d
   with_stmt f w l (if_stmt e a b) d =
       let first = with_stmt f w l a (with_test f d.labels false e (two_given d)) in
-      let second = with_stmt f w (case_behind l a) b (with_label d.labels (with_jump (d.labels + 1) first)) in
+      let second = with_stmt f w (case_behind l a) b (with_label d.labels (with_way (is_empty b) (d.labels + 1) first)) in
       with_label (d.labels + 1) second
   with_stmt f w l (while e a) d =
       let body = with_stmt f (ways (d.labels + 1) d.labels w.other) l a (with_test f (d.labels + 1) false e (with_label d.labels (two_given d))) in
@@ -120,6 +128,30 @@ abbrev mutual
   pub with_stmts : Framed → Ways → ℕ → Stmts → Drafted → Drafted
   with_stmts f w l no_stmts d = d
   with_stmts f w l (and_stmts a ss) d = with_stmts f w (case_behind l a) ss (with_stmt f w l a d)
+
+-- ---- a statement that stands last in its function: a return at its end needs no jump
+
+abbrev mutual
+  pub with_last : Framed → Ways → ℕ → Stmt → Drafted → Drafted
+  with_last f w l (block os ss) d = with_lasts f w l ss d
+  with_last f w l (return e) d = with_maybe f e d
+  with_last f w l a d = with_stmt f w l a d
+
+  pub with_lasts : Framed → Ways → ℕ → Stmts → Drafted → Drafted
+  with_lasts f w l no_stmts d = d
+  with_lasts f w l (and_stmts a no_stmts) d = with_last f w l a d
+  with_lasts f w l (and_stmts a (and_stmts b ss)) d = with_lasts f w (case_behind l a) (and_stmts b ss) (with_stmt f w l a d)
+
+abbrev mutual
+  pub returns_last : Stmt → Bool
+  returns_last (block os ss) = any_last ss
+  returns_last (return e) = true
+  returns_last a = false
+
+  pub any_last : Stmts → Bool
+  any_last no_stmts = false
+  any_last (and_stmts a no_stmts) = returns_last a
+  any_last (and_stmts a (and_stmts b ss)) = any_last (and_stmts b ss)
 
 -- ---- the same by construct
 

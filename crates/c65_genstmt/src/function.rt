@@ -4,11 +4,11 @@ ghost use Rattle.c65_base.specs.Answers.{Gives};
 ghost use Rattle.c65_csem.specs.Views.{func_of};
 ghost use Rattle.c65_genframe.specs.Modes.{modes_of};
 ghost use Rattle.c65_genwide.specs.Lines.{with_lines};
-ghost use Rattle.c65_genstmt.specs.Functions.{body_room, with_body, main_code, with_function, no_lines, closed, gives_of, function_of, function_at};
+ghost use Rattle.c65_genstmt.specs.Functions.{body_returns, body_room, with_body, main_code, with_function, no_lines, closed, gives_of, function_of, function_at};
 
 use crate::cases::room_of;
 use crate::jumps::Ways;
-use crate::stmt::put_stmt;
+use crate::stmt::{put_last, returns_last};
 use c65_base::{Options, Refusal};
 use c65_code::Line::Do;
 use c65_code::Operand::Byte;
@@ -67,8 +67,17 @@ fn put_body(
     };
     let mut case = 0;
     match &function.body {
-        Some(body) => put_stmt(alloc, body, frame, ways, &mut case, draft),
+        Some(body) => put_last(alloc, body, frame, ways, &mut case, draft),
         None => Ok(()),
+    }
+}
+
+fn body_returns(function: &TFunc) -> bool
+    ensures { result ≡ body_returns (func_of function.now).body }
+{
+    match &function.body {
+        Some(body) => returns_last(body),
+        None => false,
     }
 }
 
@@ -86,7 +95,7 @@ fn put_function(
     let _ = reserve(draft, body_room(function) as usize)?;
     put_entry(frame, draft)?;
     put_body(alloc, function, frame, draft)?;
-    put_zero(is_main, draft)?;
+    put_zero(is_main && !body_returns(function), draft)?;
     label(draft, end)?;
     put_end(frame, draft)?;
     Ok(())

@@ -2,7 +2,7 @@
 ghost use Rattle.std.specs.Prelude.{◌≡◌, ◌+◌, IfOk, OnOk};
 ghost use Rattle.c65_csem.specs.Statements.{cases_of};
 ghost use Rattle.c65_csem.specs.Views.{typed_of, maybe_of, stmt_of, stmts_of};
-ghost use Rattle.c65_genstmt.specs.Stmts.{case_behind, case_behind_all, with_maybe, with_effects, with_guard, default_way, with_choice, with_label, three_given, with_bottom, with_stmt, with_stmts, with_if, with_while, with_do, with_for, with_switch};
+ghost use Rattle.c65_genstmt.specs.Stmts.{is_empty, with_last, with_lasts, returns_last, any_last, case_behind, case_behind_all, with_maybe, with_effects, with_guard, default_way, with_choice, with_label, three_given, with_bottom, with_stmt, with_stmts, with_if, with_while, with_do, with_for, with_switch};
 
 use crate::cases::{add_cases, has_default};
 use crate::jumps::{Ways, following, kind_of, put_effect, put_jump, put_truth, put_value};
@@ -132,6 +132,12 @@ fn close_loop(
     Ok(())
 }
 
+fn is_empty(stmt: &TStmt) -> bool
+    ensures { result ≡ is_empty (stmt_of stmt.now) }
+{
+    matches!(stmt, TStmt::Empty)
+}
+
 /// Puts the lines of a statement. `case` is the label of the next case of the innermost switch.
 #[cycle(statements)]
 pub fn put_stmt(
@@ -244,9 +250,13 @@ fn put_if(
     let end = fresh(draft)?;
     put_truth(test, frame, no, false, draft)?;
     put_stmt(alloc, body, frame, ways, case, draft)?;
-    put_jump(end, draft)?;
-    label(draft, no)?;
-    put_stmt(alloc, other, frame, ways, case, draft)?;
+    if is_empty(other) {
+        label(draft, no)?;
+    } else {
+        put_jump(end, draft)?;
+        label(draft, no)?;
+        put_stmt(alloc, other, frame, ways, case, draft)?;
+    }
     label(draft, end)?;
     Ok(())
 }
@@ -357,4 +367,65 @@ fn put_switch(
     put_stmt(alloc, body, frame, inner, &mut case, draft)?;
     label(draft, exits.end)?;
     Ok(())
+}
+
+/// Whether a statement returns at its end, which then needs no jump: it stands last in its function.
+#[cycle(returns)]
+pub fn returns_last(stmt: &TStmt) -> bool
+    ensures { result ≡ returns_last (stmt_of stmt.now) }
+{
+    match stmt {
+        TStmt::Return(_) => true,
+        TStmt::Block(_, stmts) => any_last(stmts),
+        _ => false,
+    }
+}
+
+#[cycle(returns)]
+fn any_last(stmts: &[TStmt]) -> bool
+    ensures { result ≡ any_last (stmts_of stmts.now) }
+{
+    match stmts.split_last() {
+        Some((last, _)) => returns_last(last),
+        None => false,
+    }
+}
+
+/// Puts the lines of a statement that stands last in its function: a return there needs no jump.
+#[cycle(lasts)]
+pub fn put_last(
+    alloc: Global,
+    stmt: &TStmt,
+    frame: &Frame<'_>,
+    ways: Ways,
+    case: &mut u32,
+    draft: &mut Draft,
+) -> Result<(), AllocError>
+    ensures lines { OnOk result (draft.new ≡ with_last frame.now ways case.old (stmt_of stmt.now) draft.old) }
+{
+    match stmt {
+        TStmt::Return(value) => put_maybe(value, frame, draft),
+        TStmt::Block(_, stmts) => put_lasts(alloc, stmts, frame, ways, case, draft),
+        _ => put_stmt(alloc, stmt, frame, ways, case, draft),
+    }
+}
+
+#[cycle(lasts)]
+fn put_lasts(
+    alloc: Global,
+    stmts: &[TStmt],
+    frame: &Frame<'_>,
+    ways: Ways,
+    case: &mut u32,
+    draft: &mut Draft,
+) -> Result<(), AllocError>
+    ensures lines { OnOk result (draft.new ≡ with_lasts frame.now ways case.old (stmts_of stmts.now) draft.old) }
+{
+    match stmts.split_last() {
+        Some((last, before)) => {
+            put_stmts(alloc, before, frame, ways, case, draft)?;
+            put_last(alloc, last, frame, ways, case, draft)
+        }
+        None => Ok(()),
+    }
 }

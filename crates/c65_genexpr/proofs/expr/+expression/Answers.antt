@@ -1,12 +1,15 @@
 use Rattle.std.proofs.Common.{◌≡◌, ◌+◌, List, sym, ap, ◌∙◌, arith}
+use Rattle.c65_ctype.specs.Views.{qty_of}
 use Rattle.c65_csem.specs.declared.expr.TExpr.{TExpr}
-use Rattle.c65_csem.specs.Trees.{call}
+use Rattle.c65_csem.specs.Trees.{call, deref, member, load, binary}
 use Rattle.c65_csem.specs.Views.{typed_of, nodes_of, node_of}
 use Rattle.c65_csem.proofs.RowLaws.{node_of_call}
 use Rattle.c65_genexpr.specs.Uses.{count, node_count, args_count}
 use Rattle.c65_genwide.proofs.Kept.{kept_then, kept_last, grown_then, grown_last, label_then, label_last, refused_then}
 use Rattle.c65_genexpr.proofs.Bases.{based, pointed}
 use Rattle.c65_genexpr.proofs.Chains.{joint_lines, choice_lines}
+use Rattle.c65_genexpr.proofs.Lows.{lowered}
+use Rattle.c65_genexpr.proofs.Relations.{compared_test, compared_value, sum_index_lines}
 use Rattle.c65_genexpr.proofs.expr.+expression.Goals as goal
 
 pub put_expr-put_call-requires : goal.put_expr-put_call-requires
@@ -75,9 +78,6 @@ put_expr-returns-in_err-put_expr-in-Copy-2-clause-kept t c = refused_then c.from
 pub put_expr-returns-in_ok-put_expr-in-Member-clause-kept : goal.put_expr-returns-in_ok-put_expr-in-Member-clause-kept
 put_expr-returns-in_ok-put_expr-in-Member-clause-kept t c = grown_last _ _ _ _ _ _ c.in_ok-put_expr-in-Member.ensures.lines c.put_offset.ensures.kept
 
-pub put_expr-returns-in_ok-put_base-in-Load-clause-kept : goal.put_expr-returns-in_ok-put_base-in-Load-clause-kept
-put_expr-returns-in_ok-put_base-in-Load-clause-kept t c = grown_last _ _ _ _ _ _ c.in_ok-put_base-in-Load.ensures.lines c.put_fetch.ensures.kept
-
 pub put_expr-returns-in_ok-put_expr-in-Convert-clause-kept : goal.put_expr-returns-in_ok-put_expr-in-Convert-clause-kept
 put_expr-returns-in_ok-put_expr-in-Convert-clause-kept t c = grown_last _ _ _ _ _ _ c.in_ok-put_expr-in-Convert.ensures.lines c.put_conversion.ensures.kept
 
@@ -123,14 +123,14 @@ put_comparison-returns-in_err-put_side-in-Truth-clause-kept t c = refused_then c
 pub put_comparison-returns-in_ok-put_side-in-Truth-clause-kept : goal.put_comparison-returns-in_ok-put_side-in-Truth-clause-kept
 put_comparison-returns-in_ok-put_side-in-Truth-clause-kept t c = label_last _ _ _ _ c.in_ok-own.ensures.draft (grown_last _ _ _ _ _ _ c.in_ok-put_side-in-Truth.ensures.lines c.put.ensures.kept)
 
-pub put_comparison-returns-in_err-put_side-in-Byte-default-None-default-default-clause-kept : goal.put_comparison-returns-in_err-put_side-in-Byte-default-None-default-default-clause-kept
-put_comparison-returns-in_err-put_side-in-Byte-default-None-default-default-clause-kept t c = refused_then c.from_residual-in_err-put_side-in-Byte-default-None-default-default.result (label_then _ _ _ c.in_ok-own.ensures.draft c.in_err-put_side-in-Byte-default-None-default-default.ensures.kept)
+pub put_comparison-returns-in_err-put_low_side-in-Byte-default-None-default-default-clause-kept : goal.put_comparison-returns-in_err-put_low_side-in-Byte-default-None-default-default-clause-kept
+put_comparison-returns-in_err-put_low_side-in-Byte-default-None-default-default-clause-kept t c = refused_then c.from_residual-in_err-put_low_side-in-Byte-default-None-default-default.result (label_then _ _ _ c.in_ok-own.ensures.draft c.in_err-put_low_side-in-Byte-default-None-default-default.ensures.kept)
 
 pub put_comparison-returns-in_err-put_compare_byte-in-Byte-default-None-default-default-clause-kept : goal.put_comparison-returns-in_err-put_compare_byte-in-Byte-default-None-default-default-clause-kept
-put_comparison-returns-in_err-put_compare_byte-in-Byte-default-None-default-default-clause-kept t c = refused_then c.from_residual-in_err-put_compare_byte-in-Byte-default-None-default-default.result (label_then _ _ _ c.in_ok-own.ensures.draft (grown_then _ _ _ _ _ c.in_ok-put_side-in-Byte-default-None-default-default.ensures.lines c.in_err-put_compare_byte-in-Byte-default-None-default-default.ensures.kept))
+put_comparison-returns-in_err-put_compare_byte-in-Byte-default-None-default-default-clause-kept t c = refused_then c.from_residual-in_err-put_compare_byte-in-Byte-default-None-default-default.result (label_then _ _ _ c.in_ok-own.ensures.draft (grown_then _ _ _ _ _ c.in_ok-put_low_side-in-Byte-default-None-default-default.ensures.lines c.in_err-put_compare_byte-in-Byte-default-None-default-default.ensures.kept))
 
 pub put_comparison-returns-in_ok-put_compare_byte-in-Byte-default-None-default-default-clause-kept : goal.put_comparison-returns-in_ok-put_compare_byte-in-Byte-default-None-default-default-clause-kept
-put_comparison-returns-in_ok-put_compare_byte-in-Byte-default-None-default-default-clause-kept t c = label_last _ _ _ _ c.in_ok-own.ensures.draft (grown_last _ _ _ _ _ _ c.in_ok-put_side-in-Byte-default-None-default-default.ensures.lines (kept_last _ _ _ _ _ c.in_ok-put_compare_byte-in-Byte-default-None-default-default.ensures.lines c.put-in-Byte-default-None-default-default.ensures.kept))
+put_comparison-returns-in_ok-put_compare_byte-in-Byte-default-None-default-default-clause-kept t c = label_last _ _ _ _ c.in_ok-own.ensures.draft (grown_last _ _ _ _ _ _ c.in_ok-put_low_side-in-Byte-default-None-default-default.ensures.lines (kept_last _ _ _ _ _ c.in_ok-put_compare_byte-in-Byte-default-None-default-default.ensures.lines c.put-in-Byte-default-None-default-default.ensures.kept))
 
 pub put_comparison-returns-in_err-leave_out-in-Byte-default-Some-default-default-clause-kept : goal.put_comparison-returns-in_err-leave_out-in-Byte-default-Some-default-default-clause-kept
 put_comparison-returns-in_err-leave_out-in-Byte-default-Some-default-default-clause-kept t c = refused_then c.from_residual-in_err-leave_out-in-Byte-default-Some-default-default.result (label_then _ _ _ c.in_ok-own.ensures.draft c.in_err-leave_out-in-Byte-default-Some-default-default.ensures.kept)
@@ -240,11 +240,11 @@ put_joint-returns-in_ok-put_test-3-clause-kept t c = label_last _ _ _ _ c.in_ok-
 pub put_side-returns-in_ok-put_wanted-in-Left-clause-kept : goal.put_side-returns-in_ok-put_wanted-in-Left-clause-kept
 put_side-returns-in_ok-put_wanted-in-Left-clause-kept t c = grown_last _ _ _ _ _ _ c.in_ok-put_wanted-in-Left.ensures.lines c.leave_out.ensures.kept
 
-pub put_load_test-returns-in_ok-put_base-in-Some-clause-kept : goal.put_load_test-returns-in_ok-put_base-in-Some-clause-kept
-put_load_test-returns-in_ok-put_base-in-Some-clause-kept t c = grown_last _ _ _ _ _ _ c.in_ok-put_base-in-Some.ensures.lines c.put_own_test.ensures.kept
+pub put_kept_test-returns-in_ok-put_base-in-Some-clause-kept : goal.put_kept_test-returns-in_ok-put_base-in-Some-clause-kept
+put_kept_test-returns-in_ok-put_base-in-Some-clause-kept t c = grown_last _ _ _ _ _ _ c.in_ok-put_base-in-Some.ensures.lines c.put_own_test.ensures.kept
 
-pub put_load_test-returns-in_ok-put_base-in-None-clause-kept : goal.put_load_test-returns-in_ok-put_base-in-None-clause-kept
-put_load_test-returns-in_ok-put_base-in-None-clause-kept t c = grown_last _ _ _ _ _ _ c.in_ok-put_base-in-None.ensures.lines c.put_loaded_test.ensures.kept
+pub put_kept_test-returns-in_ok-put_base-in-None-clause-kept : goal.put_kept_test-returns-in_ok-put_base-in-None-clause-kept
+put_kept_test-returns-in_ok-put_base-in-None-clause-kept t c = grown_last _ _ _ _ _ _ c.in_ok-put_base-in-None.ensures.lines c.put_loaded_test.ensures.kept
 
 pub put_test-returns-in_ok-put_expr-in-Comma-clause-kept : goal.put_test-returns-in_ok-put_expr-in-Comma-clause-kept
 put_test-returns-in_ok-put_expr-in-Comma-clause-kept t c = grown_last _ _ _ _ _ _ c.in_ok-put_expr-in-Comma.ensures.lines c.put_test-in-Comma.ensures.kept
@@ -359,10 +359,155 @@ pub put_part_base-returns-in_ok-put_offset-clause-kept : goal.put_part_base-retu
 put_part_base-returns-in_ok-put_offset-clause-kept t c = grown_last _ _ _ _ _ _ c.in_ok-put_expr.ensures.lines (kept_last _ _ _ _ _ c.in_ok-put_offset.ensures.lines c.put_arrived.ensures.kept)
 
 pub put_base_by-returns-in_ok-put_expr-in-Const-clause-kept : goal.put_base_by-returns-in_ok-put_expr-in-Const-clause-kept
-put_base_by-returns-in_ok-put_expr-in-Const-clause-kept t c = grown_last _ _ _ _ _ _ c.in_ok-put_expr-in-Const.ensures.lines c.put_arrived.ensures.kept
+put_base_by-returns-in_ok-put_expr-in-Const-clause-kept t c = grown_last _ _ _ _ _ _ c.in_ok-put_expr-in-Const.ensures.lines c.put_arrived-in-Const.ensures.kept
 
 pub put_pointer_by-returns-in_ok-put_expr-in-Some-clause-kept : goal.put_pointer_by-returns-in_ok-put_expr-in-Some-clause-kept
 put_pointer_by-returns-in_ok-put_expr-in-Some-clause-kept t c = grown_last _ _ _ _ _ _ c.in_ok-put_expr-in-Some.ensures.lines c.put_arrived.ensures.kept
 
 pub put_pointer_by-returns-in_ok-put_expr-in-Const-clause-kept : goal.put_pointer_by-returns-in_ok-put_expr-in-Const-clause-kept
 put_pointer_by-returns-in_ok-put_expr-in-Const-clause-kept t c = grown_last _ _ _ _ _ _ c.in_ok-put_expr-in-Const.ensures.lines c.put_arrived-in-Const.ensures.kept
+
+-- low bytes and elements
+
+pub put_low-returns-clause-lines : goal.put_low-returns-clause-lines
+put_low-returns-clause-lines t c = lowered c.put_low_read.result c.args.draft.now c.put_low_read.new.draft c.args.frame.now c.args.pushed c.args.draft.now.labels (typed_of c.args.e.now) c.put_low_read.ensures.lines
+
+pub put_load_value-returns-in_ok-put_base-in-None-clause-kept : goal.put_load_value-returns-in_ok-put_base-in-None-clause-kept
+put_load_value-returns-in_ok-put_base-in-None-clause-kept t c = grown_last _ _ _ _ _ _ c.in_ok-put_base-in-None.ensures.lines c.put_fetch.ensures.kept
+
+pub put_load_value-returns-in_ok-put_index-in-Some-clause-kept : goal.put_load_value-returns-in_ok-put_index-in-Some-clause-kept
+put_load_value-returns-in_ok-put_index-in-Some-clause-kept t c = grown_last _ _ _ _ _ _ c.in_ok-put_index-in-Some.ensures.lines c.put_element_value.ensures.kept
+
+pub put_load_test-returns-in_ok-put_index-in-Some-clause-kept : goal.put_load_test-returns-in_ok-put_index-in-Some-clause-kept
+put_load_test-returns-in_ok-put_index-in-Some-clause-kept t c = grown_last _ _ _ _ _ _ c.in_ok-put_index-in-Some.ensures.lines c.put_element_test.ensures.kept
+
+pub put_low_load-returns-in_ok-put_index-in-Some-clause-kept : goal.put_low_load-returns-in_ok-put_index-in-Some-clause-kept
+put_low_load-returns-in_ok-put_index-in-Some-clause-kept t c = grown_last _ _ _ _ _ _ c.in_ok-put_index-in-Some.ensures.lines c.put_element_byte.ensures.kept
+
+pub put_low_load-returns-in_ok-put_base-in-Some-behind_pointer-clause-kept : goal.put_low_load-returns-in_ok-put_base-in-Some-behind_pointer-clause-kept
+put_low_load-returns-in_ok-put_base-in-Some-behind_pointer-clause-kept t c = grown_last _ _ _ _ _ _ c.in_ok-put_base-in-Some-behind_pointer.ensures.lines c.put_behind_pointer.ensures.kept
+
+pub put_low_side-returns-in_ok-put_low-in-Left-clause-kept : goal.put_low_side-returns-in_ok-put_low-in-Left-clause-kept
+put_low_side-returns-in_ok-put_low-in-Left-clause-kept t c = grown_last _ _ _ _ _ _ c.in_ok-put_low-in-Left.ensures.lines c.leave_out.ensures.kept
+
+pub put_comparison-returns-in_err-put_low-in-HeldByte-clause-kept : goal.put_comparison-returns-in_err-put_low-in-HeldByte-clause-kept
+put_comparison-returns-in_err-put_low-in-HeldByte-clause-kept t c = refused_then c.from_residual-in_err-put_low-in-HeldByte.result (label_then _ _ _ c.in_ok-own.ensures.draft c.in_err-put_low-in-HeldByte.ensures.kept)
+
+pub put_comparison-returns-in_err-put_keep_byte-in-HeldByte-clause-kept : goal.put_comparison-returns-in_err-put_keep_byte-in-HeldByte-clause-kept
+put_comparison-returns-in_err-put_keep_byte-in-HeldByte-clause-kept t c = refused_then c.from_residual-in_err-put_keep_byte-in-HeldByte.result (label_then _ _ _ c.in_ok-own.ensures.draft (grown_then _ _ _ _ _ c.in_ok-put_low-in-HeldByte.ensures.lines c.in_err-put_keep_byte-in-HeldByte.ensures.kept))
+
+pub put_comparison-returns-in_err-put_low-in-HeldByte-2-clause-kept : goal.put_comparison-returns-in_err-put_low-in-HeldByte-2-clause-kept
+put_comparison-returns-in_err-put_low-in-HeldByte-2-clause-kept t c = refused_then c.from_residual-in_err-put_low-in-HeldByte-2.result (label_then _ _ _ c.in_ok-own.ensures.draft (grown_then _ _ _ _ _ c.in_ok-put_low-in-HeldByte.ensures.lines (kept_then _ _ _ _ c.in_ok-put_keep_byte-in-HeldByte.ensures.lines c.in_err-put_low-in-HeldByte-2.ensures.kept)))
+
+pub put_comparison-returns-in_err-put_compare_byte-in-HeldByte-clause-kept : goal.put_comparison-returns-in_err-put_compare_byte-in-HeldByte-clause-kept
+put_comparison-returns-in_err-put_compare_byte-in-HeldByte-clause-kept t c = refused_then c.from_residual-in_err-put_compare_byte-in-HeldByte.result (label_then _ _ _ c.in_ok-own.ensures.draft (grown_then _ _ _ _ _ c.in_ok-put_low-in-HeldByte.ensures.lines (kept_then _ _ _ _ c.in_ok-put_keep_byte-in-HeldByte.ensures.lines (grown_then _ _ _ _ _ c.in_ok-put_low-in-HeldByte-2.ensures.lines c.in_err-put_compare_byte-in-HeldByte.ensures.kept))))
+
+pub put_comparison-returns-in_ok-put_compare_byte-in-HeldByte-clause-kept : goal.put_comparison-returns-in_ok-put_compare_byte-in-HeldByte-clause-kept
+put_comparison-returns-in_ok-put_compare_byte-in-HeldByte-clause-kept t c = label_last _ _ _ _ c.in_ok-own.ensures.draft (grown_last _ _ _ _ _ _ c.in_ok-put_low-in-HeldByte.ensures.lines (kept_last _ _ _ _ _ c.in_ok-put_keep_byte-in-HeldByte.ensures.lines (grown_last _ _ _ _ _ _ c.in_ok-put_low-in-HeldByte-2.ensures.lines (kept_last _ _ _ _ _ c.in_ok-put_compare_byte-in-HeldByte.ensures.lines c.put-in-HeldByte.ensures.kept))))
+
+pub put_low_by-returns-in_err-put_low-in-Some-clause-kept : goal.put_low_by-returns-in_err-put_low-in-Some-clause-kept
+put_low_by-returns-in_err-put_low-in-Some-clause-kept t c = refused_then c.from_residual-in_err-put_low-in-Some.result (grown_then _ _ _ _ _ c.in_ok-leave_sum-in-Some.ensures.lines c.in_err-put_low-in-Some.ensures.kept)
+
+pub put_low_by-returns-in_err-leave_out-in-Some-clause-kept : goal.put_low_by-returns-in_err-leave_out-in-Some-clause-kept
+put_low_by-returns-in_err-leave_out-in-Some-clause-kept t c = refused_then c.from_residual-in_err-leave_out-in-Some.result (grown_then _ _ _ _ _ c.in_ok-leave_sum-in-Some.ensures.lines (grown_then _ _ _ _ _ c.in_ok-put_low-in-Some.ensures.lines c.in_err-leave_out-in-Some.ensures.kept))
+
+pub put_low_by-returns-in_ok-leave_out-in-Some-clause-kept : goal.put_low_by-returns-in_ok-leave_out-in-Some-clause-kept
+put_low_by-returns-in_ok-leave_out-in-Some-clause-kept t c = grown_last _ _ _ _ _ _ c.in_ok-leave_sum-in-Some.ensures.lines (grown_last _ _ _ _ _ _ c.in_ok-put_low-in-Some.ensures.lines (grown_last _ _ _ _ _ _ c.in_ok-leave_out-in-Some.ensures.lines c.put_low_operator.ensures.kept))
+
+pub put_low_read-returns-in_ok-leave_out-in-Some-clause-kept : goal.put_low_read-returns-in_ok-leave_out-in-Some-clause-kept
+put_low_read-returns-in_ok-leave_out-in-Some-clause-kept t c = grown_last _ _ _ _ _ _ c.in_ok-leave_out-in-Some.ensures.lines c.put_op.ensures.kept
+
+pub put_sum_index-returns-in_ok-leave_sum-in-Binary-clause-kept : goal.put_sum_index-returns-in_ok-leave_sum-in-Binary-clause-kept
+put_sum_index-returns-in_ok-leave_sum-in-Binary-clause-kept t c = grown_last _ _ _ _ _ _ c.in_ok-leave_sum-in-Binary.ensures.lines c.put_low.ensures.kept
+
+pub put_base_by-returns-in_ok-put_expr-in-Convert-clause-kept : goal.put_base_by-returns-in_ok-put_expr-in-Convert-clause-kept
+put_base_by-returns-in_ok-put_expr-in-Convert-clause-kept t c = grown_last _ _ _ _ _ _ c.in_ok-put_expr-in-Convert.ensures.lines c.put_arrived-in-Convert.ensures.kept
+
+pub put_base_by-returns-in_ok-put_expr-in-And-clause-kept : goal.put_base_by-returns-in_ok-put_expr-in-And-clause-kept
+put_base_by-returns-in_ok-put_expr-in-And-clause-kept t c = grown_last _ _ _ _ _ _ c.in_ok-put_expr-in-And.ensures.lines c.put_arrived-in-And.ensures.kept
+
+pub put_base_by-returns-in_ok-put_expr-in-Assign-clause-kept : goal.put_base_by-returns-in_ok-put_expr-in-Assign-clause-kept
+put_base_by-returns-in_ok-put_expr-in-Assign-clause-kept t c = grown_last _ _ _ _ _ _ c.in_ok-put_expr-in-Assign.ensures.lines c.put_arrived-in-Assign.ensures.kept
+
+pub put_base_by-returns-in_ok-put_expr-in-Copy-clause-kept : goal.put_base_by-returns-in_ok-put_expr-in-Copy-clause-kept
+put_base_by-returns-in_ok-put_expr-in-Copy-clause-kept t c = grown_last _ _ _ _ _ _ c.in_ok-put_expr-in-Copy.ensures.lines c.put_arrived.ensures.kept
+
+pub put_pointer_by-returns-in_ok-put_expr-in-Load-clause-kept : goal.put_pointer_by-returns-in_ok-put_expr-in-Load-clause-kept
+put_pointer_by-returns-in_ok-put_expr-in-Load-clause-kept t c = grown_last _ _ _ _ _ _ c.in_ok-put_expr-in-Load.ensures.lines c.put_arrived-in-Load.ensures.kept
+
+pub put_pointer_by-returns-in_ok-put_expr-in-And-clause-kept : goal.put_pointer_by-returns-in_ok-put_expr-in-And-clause-kept
+put_pointer_by-returns-in_ok-put_expr-in-And-clause-kept t c = grown_last _ _ _ _ _ _ c.in_ok-put_expr-in-And.ensures.lines c.put_arrived-in-And.ensures.kept
+
+pub put_pointer_by-returns-in_ok-put_expr-in-Assign-clause-kept : goal.put_pointer_by-returns-in_ok-put_expr-in-Assign-clause-kept
+put_pointer_by-returns-in_ok-put_expr-in-Assign-clause-kept t c = grown_last _ _ _ _ _ _ c.in_ok-put_expr-in-Assign.ensures.lines c.put_arrived-in-Assign.ensures.kept
+
+pub put_pointer_by-returns-in_ok-put_expr-in-Copy-clause-kept : goal.put_pointer_by-returns-in_ok-put_expr-in-Copy-clause-kept
+put_pointer_by-returns-in_ok-put_expr-in-Copy-clause-kept t c = grown_last _ _ _ _ _ _ c.in_ok-put_expr-in-Copy.ensures.lines c.put_arrived-in-Copy.ensures.kept
+
+-- by what the trees are
+
+pub put_expr-returns-in-Load-clause-lines : goal.put_expr-returns-in-Load-clause-lines
+put_expr-returns-in-Load-clause-lines t c =
+    let same : node_of c.args.e.now.kind ≡ load (typed_of c.deref-in-Load.result.now) =
+    ap node_of c.in-Load.is ∙ ap (λ (g : TExpr). load (typed_of g)) (sym c.deref-in-Load.ensures)
+    in
+    rw same c.put_load_value.ensures.lines
+
+pub put_test-returns-in-Load-clause-lines : goal.put_test-returns-in-Load-clause-lines
+put_test-returns-in-Load-clause-lines t c =
+    let same : node_of c.args.e.now.kind ≡ load (typed_of c.deref.result.now) =
+    ap node_of c.in-Load.is ∙ ap (λ (g : TExpr). load (typed_of g)) (sym c.deref.ensures)
+    in
+    rw same c.put_load_test.ensures.lines
+
+pub put_low_by-returns-in-Load-clause-lines : goal.put_low_by-returns-in-Load-clause-lines
+put_low_by-returns-in-Load-clause-lines t c =
+    let same : node_of c.args.e.now.kind ≡ load (typed_of c.deref-in-Load.result.now) =
+    ap node_of c.in-Load.is ∙ ap (λ (g : TExpr). load (typed_of g)) (sym c.deref-in-Load.ensures)
+    in
+    rw same c.put_low_load.ensures.lines
+
+pub put_index-returns-in-Deref-clause-lines : goal.put_index-returns-in-Deref-clause-lines
+put_index-returns-in-Deref-clause-lines t c =
+    let same : node_of c.args.e.now.kind ≡ deref (typed_of c.deref.result.now) =
+    ap node_of c.in-Deref.is ∙ ap (λ (g : TExpr). deref (typed_of g)) (sym c.deref.ensures)
+    in
+    rw same c.put_sum_index.ensures.lines
+
+pub put_index-returns-in-Member-clause-lines : goal.put_index-returns-in-Member-clause-lines
+put_index-returns-in-Member-clause-lines t c =
+    let same : node_of c.args.e.now.kind ≡ member (typed_of c.deref-in-Member.result.now) c.in-Member.field-1 =
+    ap node_of c.in-Member.is ∙ ap (λ (g : TExpr). member (typed_of g) c.in-Member.field-1) (sym c.deref-in-Member.ensures)
+    in
+    rw same c.put_index.ensures.lines
+
+pub put_sum_index-returns-in_ok-leave_sum-in-Binary-clause-lines : goal.put_sum_index-returns-in_ok-leave_sum-in-Binary-clause-lines
+put_sum_index-returns-in_ok-leave_sum-in-Binary-clause-lines t c =
+    let same : node_of c.args.e.now.kind ≡ binary c.in-Binary.field-0 (typed_of c.in-Binary.field-1.value) (typed_of c.deref.result.now) =
+    ap node_of c.in-Binary.is ∙ ap (λ (g : TExpr). binary c.in-Binary.field-0 (typed_of c.in-Binary.field-1.value) (typed_of g)) (sym c.deref.ensures)
+    in
+    rw same (sum_index_lines c.put_low.result c.args.draft.now _ c.put_low.new.draft c.args.frame.now c.args.pushed (typed_of c.deref.result.now) c.in_ok-leave_sum-in-Binary.ensures.lines c.put_low.ensures.lines)
+
+pub put_test-returns-in-Some-clause-lines : goal.put_test-returns-in-Some-clause-lines
+put_test-returns-in-Some-clause-lines t c =
+    let a = c.deref-in-Some.result.now in
+    let b = c.deref-in-Some-2.result.now in
+    let op = c.in-Binary.op in
+    let same : node_of c.args.e.now.kind ≡ binary op (typed_of a) (typed_of b) =
+    ap node_of c.in-Binary.is
+    ∙ ap (λ (g : TExpr). binary op (typed_of g) (typed_of c.in-Binary.b.value)) (sym c.deref-in-Some.ensures)
+    ∙ ap (λ (g : TExpr). binary op (typed_of a) (typed_of g)) (sym c.deref-in-Some-2.ensures)
+    in
+    rw same (compared_test c.put_comparison.result c.args.draft.now c.put_comparison.new.draft c.args.frame.now c.args.pushed c.args.to c.args.sense op c.in-Some.relation (qty_of c.args.e.now.ty) (typed_of a) (typed_of b) (sym c.relation_of.ensures ∙ c.in-Some.is) c.put_comparison.ensures.lines)
+
+pub put_expr-returns-in_ok-put_comparison-in-Some-clause-lines : goal.put_expr-returns-in_ok-put_comparison-in-Some-clause-lines
+put_expr-returns-in_ok-put_comparison-in-Some-clause-lines t c =
+    let a = c.deref-in-Some.result.now in
+    let b = c.deref-in-Some-2.result.now in
+    let op = c.in-Binary.op in
+    let same : node_of c.args.e.now.kind ≡ binary op (typed_of a) (typed_of b) =
+    ap node_of c.in-Binary.is
+    ∙ ap (λ (g : TExpr). binary op (typed_of g) (typed_of c.in-Binary.b.value)) (sym c.deref-in-Some.ensures)
+    ∙ ap (λ (g : TExpr). binary op (typed_of a) (typed_of g)) (sym c.deref-in-Some-2.ensures)
+    in
+    rw same (compared_value c.put_truth.result c.args.draft.now _ _ c.put_truth.new.draft c.args.frame.now c.args.pushed c.in_ok-truth-in-Some.truth.no op c.in-Some.relation (qty_of c.args.e.now.ty) (typed_of a) (typed_of b) (sym c.relation_of.ensures ∙ c.in-Some.is) c.in_ok-truth-in-Some.ensures.no c.in_ok-truth-in-Some.ensures.draft c.in_ok-put_comparison-in-Some.ensures.lines c.put_truth.ensures.lines)

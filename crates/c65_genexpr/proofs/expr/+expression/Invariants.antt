@@ -30,14 +30,41 @@ decreases-put_base_by l = 8 * count (typed_of l.a.now) + 1
 abbrev pub decreases-put_pointer_by : goal.decreases-put_pointer_by
 decreases-put_pointer_by l = 8 * count (typed_of l.e.now) + 2
 
+abbrev pub decreases-put_low : goal.decreases-put_low
+decreases-put_low l = 8 * count (typed_of l.e.now) + 3
+
+abbrev pub decreases-put_low_read : goal.decreases-put_low_read
+decreases-put_low_read l = 8 * count (typed_of l.e.now) + 2
+
+abbrev pub decreases-put_low_by : goal.decreases-put_low_by
+decreases-put_low_by l = 8 * count (typed_of l.e.now) + 1
+
+abbrev pub decreases-put_low_load : goal.decreases-put_low_load
+decreases-put_low_load l = 8 * count (typed_of l.a.now) + 5
+
+abbrev pub decreases-put_index : goal.decreases-put_index
+decreases-put_index l = 8 * count (typed_of l.e.now) + 3
+
+abbrev pub decreases-put_sum_index : goal.decreases-put_sum_index
+decreases-put_sum_index l = 8 * count (typed_of l.e.now) + 3
+
+abbrev pub decreases-put_load_value : goal.decreases-put_load_value
+decreases-put_load_value l = 8 * count (typed_of l.a.now) + 4
+
+abbrev pub decreases-put_kept_test : goal.decreases-put_kept_test
+decreases-put_kept_test l = 8 * count (typed_of l.a.now) + 4
+
 abbrev pub decreases-put_load_test : goal.decreases-put_load_test
-decreases-put_load_test l = 8 * count (typed_of l.a.now) + 4
+decreases-put_load_test l = 8 * count (typed_of l.a.now) + 5
 
 abbrev pub decreases-put_unary_value : goal.decreases-put_unary_value
 decreases-put_unary_value l = 8 * count (typed_of l.a.now) + 4
 
 abbrev pub decreases-put_side : goal.decreases-put_side
 decreases-put_side l = 8 * (count (typed_of l.a.now) + count (typed_of l.b.now)) + 4
+
+abbrev pub decreases-put_low_side : goal.decreases-put_low_side
+decreases-put_low_side l = 8 * (count (typed_of l.a.now) + count (typed_of l.b.now)) + 4
 
 abbrev pub decreases-put_comparison : goal.decreases-put_comparison
 decreases-put_comparison l = 8 * (count (typed_of l.a.now) + count (typed_of l.b.now)) + 5
