@@ -3,7 +3,8 @@ use Rattle.std.proofs.Common.{ℕ, ◌<◌, ◌^◌, ◌==◌, [], ◌∷◌, �
 use Rattle.c65_base.specs.declared.operators.BinaryOp.{BinaryOp}
 use Rattle.c65_base.specs.declared.operators.BinaryOp.TheVariants as ops
 use Rattle.c65_mach.specs.declared.rows.Op.{Op}
-use Rattle.c65_mach.specs.declared.rows.Op.TheVariants.{Bcc, Bcs, Dec, Inc, Lda, Sta}
+use Rattle.c65_mach.specs.declared.rows.Op.TheVariants.{Adc, Bcc, Bcs, Dec, Inc, Iny, Lda, Sta}
+use Rattle.c65_code.specs.declared.line.Line.TheVariants.{Label}
 use Rattle.c65_genload.specs.declared.places.Extent.{Extent}
 use Rattle.c65_genload.specs.declared.places.Extent.TheVariants.{One, Two, Three, Four}
 use Rattle.c65_genload.specs.declared.places.Place.{Place}
@@ -11,7 +12,7 @@ use Rattle.c65_genload.specs.declared.places.Place.TheVariants as places
 use Rattle.c65_genload.specs.declared.places.Access.{Access}
 use Rattle.c65_genload.specs.declared.places.Access.TheVariants.{Whole, Part}
 use Rattle.c65_genload.specs.Places.{extent_of}
-use Rattle.c65_genload.specs.Words.{tmp1, tmp2, branch}
+use Rattle.c65_genload.specs.Words.{tmp1, tmp2, implied, branch}
 use Rattle.c65_genload.specs.Numbers.{first, second}
 use Rattle.c65_gendirect.specs.Words.{instruction, carry_code}
 use Rattle.c65_genchange.specs.declared.spots.Spot.{Spot}
@@ -20,8 +21,8 @@ use Rattle.c65_genchange.specs.declared.spots.Target.{Target}
 use Rattle.c65_genchange.specs.declared.spots.Target.TheVariants.{Byte, Word}
 use Rattle.c65_genchange.specs.declared.changes.Change.{Change}
 use Rattle.c65_genchange.specs.declared.changes.Change.TheVariants.{Up, Down, Number, Operand}
-use Rattle.c65_genchange.specs.Spots.{point_code, target_by, target_of, reach_code, again_code}
-use Rattle.c65_genchange.specs.Changes.{up_code, down_code, byte_code, first_code, next_code, is_neutral, skip_code, low_code, high_code, number_code, aside_code, taken_code, less_code, joined_code, more_code, operand_code, change_code, fill_code}
+use Rattle.c65_genchange.specs.Spots.{point_code, target_by, target_of, reach_code, again_code, is_next, beside_code}
+use Rattle.c65_genchange.specs.Changes.{up_code, down_code, byte_code, first_code, next_code, is_neutral, skip_code, low_code, high_code, is_one, carried_code, number_code, aside_code, taken_code, less_code, joined_code, more_code, operand_code, change_code, fill_code}
 use Rattle.c65_gen_law_lines.proofs.EffectFacts.{target_in, OfAny}
 use Rattle.c65_asm_law.proofs.Well.{AllWell, well_append, well_none, well_more, well_if}
 use Rattle.c65_asm_law.proofs.Loads.{WellPlace}
@@ -64,6 +65,9 @@ again_well n op (Behind pointer at) h = record { all = ((tt, h.0), tt) }
 again_well n op (Data sym at) h = record { all = ((tt, h), tt) }
 again_well n op (Zero at) h = record { all = ((tt, h), tt) }
 
+beside_well : (n : ℕ) (op : Op) (low high : Spot) → WellSpot n high → AllWell n (beside_code op low high)
+beside_well n op low high h = well_if n (is_next low high) (implied Iny ∷ again_code op high) (reach_code op high) (well_more n _ _ (tt, tt) (again_well n op high h)) (reach_well n op high h)
+
 -- ---- forms
 
 pub up_well : (n : ℕ) (target : Target) (label : ℕ) → WellTarget n target → label < 2 ^ 32 → AllWell n (up_code target label)
@@ -96,10 +100,15 @@ high_well : (n : ℕ) (op : BinaryOp) (m : ℕ) (spot : Spot) (label : ℕ) → 
 high_well n op m spot label h few low =
     well_if n (is_neutral op m) [] (skip_code op m label ++ next_code op m spot) (well_none n) (well_append n (skip_code op m label) _ (skip_well n op m label low) (next_well n op m spot h few))
 
+carried_well : (n : ℕ) (op : BinaryOp) (low high : Spot) (label : ℕ) → WellSpot n high → label < 2 ^ 32 → AllWell n (carried_code op low high label)
+carried_well n op low high label h few = well_append n (skip_code op 0 label) _ (skip_well n op 0 label few) (well_append n (beside_code Adc low high) _ (beside_well n Adc low high h) (again_well n Sta high h))
+
 number_well : (n : ℕ) (op : BinaryOp) (m : ℕ) (target : Target) (label : ℕ) → WellTarget n target → label < 2 ^ 32 → AllWell n (number_code op m target label)
 number_well n op m (Byte low) label h few = well_append n (low_code op (first m) low) _ (low_well n op (first m) low h (omega arith)) (label_one n label few)
 number_well n op m (Word low high) label h few =
-    well_append n (low_code op (first m) low) _ (low_well n op (first m) low h.0 (omega arith)) (well_append n (high_code op (second m) high label) _ (high_well n op (second m) high label h.1 (omega arith) few) (label_one n label few))
+    well_if n (is_one op m) (first_code op 1 low ++ (carried_code op low high label ++ (Label label ∷ []))) _
+    (well_append n (first_code op 1 low) _ (first_well n op 1 low h.0 (omega arith)) (well_append n (carried_code op low high label) _ (carried_well n op low high label h.1 few) (label_one n label few)))
+    (well_append n (low_code op (first m) low) _ (low_well n op (first m) low h.0 (omega arith)) (well_append n (high_code op (second m) high label) _ (high_well n op (second m) high label h.1 (omega arith) few) (label_one n label few)))
 
 taken_well : (n at : ℕ) (spot : Spot) → at < 2 ^ 8 → WellSpot n spot → AllWell n (taken_code at spot)
 taken_well n at spot few h = well_more n _ _ (tt, few) (again_well n Sta spot h)
@@ -135,4 +144,4 @@ point_well n (places.Near at) = well_none n
 point_well n (places.Data s at) = well_none n
 
 pub fill_well : (n m : ℕ) (low high : Spot) → m < 2 ^ 8 → WellSpot n low → WellSpot n high → AllWell n (fill_code m low high)
-fill_well n m low high few h k = well_more n _ _ (tt, few) (well_append n (reach_code Sta low) _ (reach_well n Sta low h) (reach_well n Sta high k))
+fill_well n m low high few h k = well_more n _ _ (tt, few) (well_append n (reach_code Sta low) _ (reach_well n Sta low h) (beside_well n Sta low high k))

@@ -155,7 +155,7 @@ carry_well n ops.Add = record { all = ((tt, tt), tt) }
 carry_well n ops.Sub = record { all = ((tt, tt), tt) }
 carry_well n _ = well_none n
 
-first_byte_well : (n : ℕ) (op : BinaryOp) (low : OperandByte) → WellByte n low → AllWell n (first_byte_code op low)
+pub first_byte_well : (n : ℕ) (op : BinaryOp) (low : OperandByte) → WellByte n low → AllWell n (first_byte_code op low)
 first_byte_well n op low h = well_append n (carry_code op) _ (carry_well n op) (op_well n (instruction op) low h)
 
 both_bytes_well : (n : ℕ) (op : BinaryOp) (low high : OperandByte) → WellByte n low → WellByte n high → AllWell n (both_bytes_code op low high)

@@ -1,6 +1,6 @@
 -- The lines of expressions whose value is not used are lines that the text can write.
-use Rattle.std.proofs.Common.{ℕ, ◌+◌, ◌<◌, ◌≤◌, ◌^◌, ◌==◌, Bool, true, false, Option, None, Some, List, ◌++◌, arith}
-use Rattle.std.specs.Prelude.{if◌then◌else◌, option_and_then}
+use Rattle.std.proofs.Common.{ℕ, ℤ, ◌+◌, ◌<◌, ◌≤◌, ◌^◌, ◌==◌, Bool, true, false, Option, None, Some, List, ◌++◌, arith}
+use Rattle.std.specs.Prelude.{◌&&◌, if◌then◌else◌, option_and_then}
 use Rattle.c65_base.specs.declared.operators.BinaryOp.{BinaryOp}
 use Rattle.c65_ctype.specs.Trees.{QTy}
 use Rattle.c65_ctype.specs.Views.{types_of}
@@ -24,26 +24,44 @@ use Rattle.c65_genchange.specs.declared.spots.Target.{Target}
 use Rattle.c65_genchange.specs.declared.spots.Target.TheVariants.{Byte, Word}
 use Rattle.c65_genchange.specs.declared.changes.Change.{Change}
 use Rattle.c65_geneffect.specs.declared.changing.Changing.{Changing}
-use Rattle.c65_geneffect.specs.declared.changing.Changing.TheVariants.{Fixed, Loaded, Otherwise}
+use Rattle.c65_geneffect.specs.declared.changing.Changing.TheVariants.{Fixed, Loaded, Computed, Otherwise}
 use Rattle.c65_geneffect.specs.declared.changing.Fill.{Fill}
 use Rattle.c65_genchange.specs.Spots.{target_of}
 use Rattle.c65_genchange.specs.Changes.{change_code}
-use Rattle.c65_geneffect.specs.Changing.{in_front, stepping_of, changing_of, number_in, fill_by, filling_at, filling_of}
+use Rattle.c65_ints.specs.declared.types.IntType.{IntType}
+use Rattle.c65_genload.specs.declared.places.Access.TheVariants.{Whole, Part}
+use Rattle.c65_genload.specs.Places.{type_in}
+use Rattle.c65_genload.specs.Conversions.{convert_code}
+use Rattle.c65_genload.specs.Loads.{load_code}
+use Rattle.c65_genexpr.specs.declared.operands.Operands.{Operands}
+use Rattle.c65_genexpr.specs.declared.operands.Operands.TheVariants.{Numbers, PointerFirst}
+use Rattle.c65_genexpr.specs.declared.operating.Form.{Form}
+use Rattle.c65_genexpr.specs.Operands.{computes, constant_in}
+use Rattle.c65_genexpr.specs.Operating.{takes_bytes, constant_right, value_form}
+use Rattle.c65_genexpr.specs.Direct.{is_pure}
+use Rattle.c65_genexpr.specs.Code.{expr_code, index_code}
+use Rattle.c65_genchange.specs.declared.changes.Change.TheVariants.{Operand}
+use Rattle.c65_geneffect.specs.declared.placing.Placing.{Placing}
+use Rattle.c65_geneffect.specs.declared.placing.Placing.TheVariants as placings
+use Rattle.c65_geneffect.specs.Placing.{placing_of, waiting_code, value_waits_code}
+use Rattle.c65_geneffect.specs.Changing.{in_front, stepping_of, loaded_by, fixed_or, computed_or, computed_by, changing_in, changing_of, number_in, fill_by, filling_at, filling_of}
 use Rattle.c65_geneffect.specs.declared.setting.Setting.{Setting}
 use Rattle.c65_geneffect.specs.declared.setting.Setting.TheVariants as settings
 use Rattle.c65_geneffect.specs.Setting.{setting_of, below_value, base_for, set_by}
 use Rattle.c65_genload.specs.Loads.{hold_code}
 use Rattle.c65_genexpr.specs.Held.{keep_code}
-use Rattle.c65_geneffect.specs.Effects.{closed, stepped_by, changed_by, filled_or, set_code, changed_code, effect_code, node_effect, effect_uses, node_effect_uses}
+use Rattle.c65_geneffect.specs.Effects.{closed, stepped_by, computed_code, changed_by, changed_base, filled_or, placed_code, set_code, changed_code, effect_code, node_effect, effect_uses, node_effect_uses}
 use Rattle.c65_gen_law_lines.proofs.EffectFacts.{target_in, OfStep, OfChanging, OfFill, stepping_target, changing_target, filling_target}
-use Rattle.c65_asm_law.proofs.Well.{AllWell, well_append}
-use Rattle.c65_asm_law.proofs.Loads.{WellPlace, hold_well}
-use Rattle.c65_asm_law.proofs.Forms.{keep_well}
+use Rattle.c65_gen_law_lines.proofs.Placing.{Placeable, placing_placeable}
+use Rattle.c65_asm_law.proofs.Well.{AllWell, well_append, well_more}
+use Rattle.c65_asm_law.proofs.Loads.{WellPlace, convert_well, hold_well, load_well, store_well}
+use Rattle.c65_asm_law.proofs.Forms.{WellForm, WellForms, constant_right_well, keep_well, value_well}
 use Rattle.c65_asm_law.proofs.Fields.{number_well, behind_well, set_well}
 use Rattle.c65_asm_law.proofs.Known.{Knows}
 use Rattle.c65_asm_law.proofs.Places.{place_well}
 use Rattle.c65_asm_law.proofs.Directs.{label_one}
-use Rattle.c65_asm_law.proofs.Exprs.{expr_well, base_well}
+use Rattle.c65_asm_law.proofs.Exprs.{expr_well, base_well, index_well}
+use Rattle.c65_asm_law.proofs.Placing.{WellPlacing, placing_well, read_code_well, behind_code_well, waiting_code_well, held_code_well, value_waits_well, later_code_well}
 use Rattle.c65_asm_law.proofs.Changes.{WellTarget, spot_well, change_well, fill_well}
 use Rattle.c65_asm_law.proofs.Steps.{step_well}
 
@@ -57,10 +75,62 @@ stepped_well : (n : ℕ) (form : Option Change) (label : ℕ) (base whole : List
 stepped_well n (Some change) label base whole h few wb ww = fixed_well n change label base h few wb
 stepped_well n None label base whole h few wb ww = ww
 
-changed_well : (n : ℕ) (how : Changing) (label : ℕ) (left right whole : List Line) → OfChanging (WellTarget n) how → label < 2 ^ 32 → AllWell n left → AllWell n right → AllWell n whole → AllWell n (changed_by how label left right whole)
-changed_well n (Fixed change) label left right whole h few wl wr ww = fixed_well n change label left h few wl
-changed_well n (Loaded change) label left right whole h few wl wr ww = well_append n left _ wl (well_append n right _ wr (change_well n change label h few))
-changed_well n Otherwise label left right whole h few wl wr ww = closed_well n label whole few ww
+-- the form by which a number is computed on
+abbrev WellComputed : ℕ → Changing → Type 0
+WellComputed n (Fixed change) = Unit {0}
+WellComputed n (Loaded change) = Unit {0}
+WellComputed n (Computed form) = WellForm n form
+WellComputed n Otherwise = Unit {0}
+
+loaded_if : (n : ℕ) (b : Bool) (op : BinaryOp) (target : Target) → WellComputed n (if b then Loaded (Operand op target) else Otherwise)
+loaded_if n true op target = tt
+loaded_if n false op target = tt
+
+loaded_computed : (n : ℕ) (pure : Bool) (op : BinaryOp) (size : ℕ) (place : Place) (target : Target) → WellComputed n (loaded_by pure op size place target)
+loaded_computed n pure op size (places.Far at) target = tt
+loaded_computed n pure op size (places.Bank b) target = loaded_if n (pure && (size == 1)) op target
+loaded_computed n pure op size (places.Near at) target = loaded_if n (pure && (size == 1)) op target
+loaded_computed n pure op size (places.Data s at) target = loaded_if n (pure && (size == 1)) op target
+
+fixed_computed : (n : ℕ) (op : BinaryOp) (size : ℕ) (target : Target) (z : Option ℤ) (other : Changing) → WellComputed n other → WellComputed n (fixed_or op size target z other)
+fixed_computed n op size target None other h = h
+fixed_computed n op size target (Some z) other h = tt
+
+form_computed : (n : ℕ) (form : Option Form) → WellForms n form → WellComputed n (computed_or form)
+form_computed n None h = tt
+form_computed n (Some form) h = h
+
+by_computed : (n : ℕ) (op : BinaryOp) (operands : Operands) (place : Place) (access : Access) (e : Typed) → WellComputed n (computed_by op operands place access e)
+by_computed n op operands (places.Far at) access e = tt
+by_computed n op operands (places.Bank b) (Part field) e = tt
+by_computed n op operands (places.Near at) (Part field) e = tt
+by_computed n op operands (places.Data s at) (Part field) e = tt
+by_computed n op operands (places.Bank b) (Whole kind) e = form_computed n (constant_right op operands e) (constant_right_well n op operands e)
+by_computed n op operands (places.Near at) (Whole kind) e = form_computed n (constant_right op operands e) (constant_right_well n op operands e)
+by_computed n op operands (places.Data s at) (Whole kind) e = form_computed n (constant_right op operands e) (constant_right_well n op operands e)
+
+in_computed : (n : ℕ) (op : BinaryOp) (operands : Operands) (size : ℕ) (place : Place) (access : Access) (e : Typed) (target : Option Target) → WellComputed n (changing_in op operands size place access e target)
+in_computed n op operands size place access e None = by_computed n op operands place access e
+in_computed n op operands size place access e (Some target) = fixed_computed n op size target (constant_in e) (loaded_by (is_pure e) op size place target) (loaded_computed n (is_pure e) op size place target)
+
+computed_if : (n : ℕ) (b : Bool) (x y : Changing) → WellComputed n x → WellComputed n y → WellComputed n (if b then x else y)
+computed_if n true x y h k = h
+computed_if n false x y h k = k
+
+changing_computed : (n : ℕ) (op : BinaryOp) (operands : Operands) (size : ℕ) (place : Place) (access : Access) (e : Typed) → WellComputed n (changing_of op operands size place access e)
+changing_computed n op operands size place access e =
+    computed_if n (takes_bytes op) (changing_in op operands size place access e (target_of place access)) (computed_by op operands place access e) (in_computed n op operands size place access e (target_of place access)) (by_computed n op operands place access e)
+
+computed_well : (n : ℕ) (place : Place) (access : Access) (kind : IntType) (form : Form) (label : ℕ) → WellPlace n place → WellForm n form → label < 2 ^ 32 → AllWell n (computed_code place access kind form label)
+computed_well n place access kind form label h k few =
+    well_append n (load_code place access) _ (load_well n place access h) (well_append n (convert_code (type_in access) kind) _ (convert_well n (type_in access) kind)
+    (well_append n (value_form form label) _ (value_well n form label k few) (well_append n (convert_code kind (type_in access)) _ (convert_well n kind (type_in access)) (store_well n place access h))))
+
+changed_well : (n : ℕ) (how : Changing) (place : Place) (access : Access) (kind : IntType) (label : ℕ) (left right whole : List Line) → OfChanging (WellTarget n) how → WellComputed n how → WellPlace n place → label < 2 ^ 32 → AllWell n left → AllWell n right → AllWell n whole → AllWell n (changed_by how place access kind label left right whole)
+changed_well n (Fixed change) place access kind label left right whole h k p few wl wr ww = fixed_well n change label left h few wl
+changed_well n (Loaded change) place access kind label left right whole h k p few wl wr ww = well_append n left _ wl (well_append n right _ wr (change_well n change label h few))
+changed_well n (Computed form) place access kind label left right whole h k p few wl wr ww = well_append n left _ wl (computed_well n place access kind form label p k few)
+changed_well n Otherwise place access kind label left right whole h k p few wl wr ww = closed_well n label whole few ww
 
 -- the byte of a fill is one
 abbrev OneByte : Option Fill → Type 0
@@ -90,13 +160,30 @@ filled_well : (n : ℕ) (fill : Option Fill) (base whole : List Line) → OneByt
 filled_well n (Some fill) base whole few h wb ww = well_append n base _ wb (fill_well n fill.byte fill.low fill.high few h.0 h.1)
 filled_well n None base whole few h wb ww = ww
 
-op_well : (n : ℕ) (u : UnitTy) (f : Framed) (pushed lo : ℕ) (op : BinaryOp) (size : ℕ) (a b : Typed) (whole : List Line) → Knows f u n → IsTyped u a → IsTyped u b → pushed < 2 ^ 16 → lo + (1 + (uses None a + uses None b)) ≤ 2 ^ 32 → AllWell n whole
-    → AllWell n (changed_code f pushed lo op size a b whole)
-op_well n u f pushed lo op size a b whole knows ta tb few room ww =
+op_well : (n : ℕ) (u : UnitTy) (f : Framed) (pushed lo : ℕ) (op : BinaryOp) (operands : Operands) (size : ℕ) (a b : Typed) (whole : List Line) → Knows f u n → IsTyped u a → IsTyped u b → pushed < 2 ^ 16 → lo + (1 + (uses None a + uses None b)) ≤ 2 ^ 32 → AllWell n whole
+    → AllWell n (changed_code f pushed lo op operands size a b whole)
+op_well n u f pushed lo op operands size a b whole knows ta tb few room ww =
     let place : Place = place_of f pushed a in
     let access : Access = access_of (types_of f.parts.types) a in
-    changed_well n (changing_of op size place access b) lo _ _ whole (changing_target (WellTarget n) op size place access b (spot_well n place access (place_well n u f pushed a knows ta))) (omega (arith, room))
-    (base_well n u f pushed (lo + 1) Pointer a knows ta few (omega (arith, room))) (expr_well n u f pushed (lo + 1 + uses None a) Value b knows tb few tt (omega (arith, room))) ww
+    let how : Changing = changing_of op operands size place access b in
+    let here : WellPlace n place = place_well n u f pushed a knows ta in
+    changed_well n how place access (computes operands) lo _ _ whole (changing_target (WellTarget n) op operands size place access b (spot_well n place access here)) (changing_computed n op operands size place access b) here (omega (arith, room))
+    (base_well n u f pushed (lo + 1) (changed_base how) a knows ta few (omega (arith, room))) (expr_well n u f pushed (lo + 1 + uses None a) Value b knows tb few tt (omega (arith, room))) ww
+
+-- an element takes the value
+placed_well : (n : ℕ) (u : UnitTy) (f : Framed) (pushed lo : ℕ) (how : Placing) (a b : Typed) (whole : List Line) → WellPlacing n how → Placeable f how a b → Knows f u n → IsTyped u a → IsTyped u b → pushed < 2 ^ 16 → lo + (uses None a + uses None b) ≤ 2 ^ 32 → AllWell n whole
+    → AllWell n (placed_code f pushed lo how a b whole)
+placed_well n u f pushed lo (placings.Read x low high) a b whole h p knows ta tb few room ww =
+    well_append n (index_code f pushed lo a) _ (index_well n u f pushed lo a p.0.0 knows ta p.0.1 few (omega (arith, room))) (read_code_well n x low high h.0 h.1.0 h.1.1)
+placed_well n u f pushed lo (placings.Behind x extent d) a b whole h p knows ta tb few room ww =
+    well_more n _ _ (omega (arith, room, p.uses)) (well_append n (expr_code f pushed (lo + 1) Value b) _ (expr_well n u f pushed (lo + 1) Value b knows tb few tt (omega (arith, room, p.uses))) (behind_code_well n x extent d h.0 h.1))
+placed_well n u f pushed lo (placings.Held x extent) a b whole h p knows ta tb few room ww =
+    well_append n (index_code f pushed lo a) _ (index_well n u f pushed lo a p.0 knows ta p.1 few (omega (arith, room))) (well_append n (waiting_code x) _ (waiting_code_well n x)
+    (well_append n (expr_code f pushed (lo + uses None a) Value b) _ (expr_well n u f pushed (lo + uses None a) Value b knows tb few tt (omega (arith, room))) (held_code_well n x extent h)))
+placed_well n u f pushed lo (placings.Later x extent) a b whole h p knows ta tb few room ww =
+    well_append n (expr_code f pushed lo Value b) _ (expr_well n u f pushed lo Value b knows tb few tt (omega (arith, room))) (well_append n (value_waits_code extent) _ (value_waits_well n extent)
+    (well_append n (index_code f pushed (lo + uses None b) a) _ (index_well n u f pushed (lo + uses None b) a p.0.0 knows ta p.0.1 few (omega (arith, room))) (later_code_well n x extent h)))
+placed_well n u f pushed lo placings.Otherwise a b whole h p knows ta tb few room ww = ww
 
 set_by_well : (n : ℕ) (how : Setting) (place : Place) (left right whole : List Line) → WellPlace n place → AllWell n left → AllWell n right → AllWell n whole → AllWell n (set_by how place left right whole)
 set_by_well n (settings.Number g m) place left right whole h wl wr ww = well_append n left _ wl (number_well n place g m h)
@@ -127,11 +214,13 @@ mutual
   node_effect_well n u f pushed lo t (assign a b) knows h few room =
       let place : Place = place_of f pushed a in
       let access : Access = access_of (types_of f.parts.types) a in
-      filled_well n (filling_of place access b) _ _ (filling_byte place access b) (filling_target (WellTarget n) place access b (spot_well n place access (place_well n u f pushed a knows h.0))) (base_well n u f pushed lo Registers a knows h.0 few (omega (arith, room))) (field_well n u f pushed lo a b _ knows h.0 h.1 few room (expr_well n u f pushed lo Value (node t (assign a b)) knows h few tt room))
+      placed_well n u f pushed lo (placing_of f pushed a b) a b _ (placing_well n u f pushed a b knows h.0 h.1) (placing_placeable f pushed a b) knows h.0 h.1 few room
+      (filled_well n (filling_of place access b) _ _ (filling_byte place access b) (filling_target (WellTarget n) place access b (spot_well n place access (place_well n u f pushed a knows h.0))) (base_well n u f pushed lo Registers a knows h.0 few (omega (arith, room)))
+      (field_well n u f pushed lo a b _ knows h.0 h.1 few room (expr_well n u f pushed lo Value (node t (assign a b)) knows h few tt room)))
   node_effect_well n u f pushed lo t (assign_op op k a b) knows h few room =
-      op_well n u f pushed lo op 1 a b _ knows h.0 h.1 few room (expr_well n u f pushed (lo + 1) Value (node t (assign_op op k a b)) knows h few tt (omega (arith, room)))
+      op_well n u f pushed lo op (Numbers k) 1 a b _ knows h.0 h.1 few room (expr_well n u f pushed (lo + 1) Value (node t (assign_op op k a b)) knows h few tt (omega (arith, room)))
   node_effect_well n u f pushed lo t (assign_step op a b) knows h few room =
-      op_well n u f pushed lo op (target_bytes f (bare a)) a b _ knows h.0 h.1 few room (expr_well n u f pushed (lo + 1) Value (node t (assign_step op a b)) knows h few tt (omega (arith, room)))
+      op_well n u f pushed lo op (PointerFirst (target_bytes f (bare a))) (target_bytes f (bare a)) a b _ knows h.0 h.1 few room (expr_well n u f pushed (lo + 1) Value (node t (assign_step op a b)) knows h few tt (omega (arith, room)))
   node_effect_well n u f pushed lo t (step how e) knows h few room =
       let place : Place = place_of f pushed e in
       let access : Access = access_of (types_of f.parts.types) e in

@@ -1,6 +1,6 @@
 -- The lines of a well typed expression can be written, and their numbers are of their types.
-use Rattle.std.proofs.Common.{◌≡◌, ℕ, ◌+◌, ◌<◌, ◌≤◌, ◌^◌, ◌==◌, Bool, true, false, Option, None, Some, List, [], ◌∷◌, ◌++◌, refl, subst, arith}
-use Rattle.std.specs.Prelude.{not, if◌then◌else◌}
+use Rattle.std.proofs.Common.{◌≡◌, ℕ, ◌+◌, ◌<◌, ◌≤◌, ◌^◌, ◌==◌, Bool, true, false, Option, None, Some, List, [], ◌∷◌, ◌++◌, refl, ap, subst, arith}
+use Rattle.std.specs.Prelude.{◌&&◌, not, if◌then◌else◌}
 use Rattle.std.proofs.lemmas.Option.{slice_get_within}
 use Rattle.c65_base.specs.declared.operators.UnaryOp.TheVariants.{Not}
 use Rattle.c65_base.specs.declared.operators.BinaryOp.{BinaryOp}
@@ -43,10 +43,10 @@ use Rattle.c65_genexpr.specs.declared.comparing.Comparing.TheVariants as compare
 use Rattle.c65_genexpr.specs.declared.operating.Operating.{Operating}
 use Rattle.c65_genexpr.specs.declared.operating.Operating.TheVariants as ways
 use Rattle.c65_genexpr.specs.Direct.{kept_at, own_bytes}
-use Rattle.c65_genexpr.specs.Comparing.{relation_by, tested_by, comparing_of, below_side}
+use Rattle.c65_genexpr.specs.Comparing.{relation_by, tested_by, comparing_of, takes_low, below_side}
 use Rattle.c65_genexpr.specs.Operating.{operating_of, below_operand}
 use Rattle.c65_genexpr.specs.declared.destination.Destination.{Destination}
-use Rattle.c65_genexpr.specs.declared.destination.Destination.TheVariants.{Registers}
+use Rattle.c65_genexpr.specs.declared.destination.Destination.TheVariants.{Registers, Pointer}
 use Rattle.c65_genexpr.specs.declared.operands.Operands.{Operands}
 use Rattle.c65_genexpr.specs.declared.operands.Operands.TheVariants.{Numbers, PointerFirst}
 use Rattle.c65_genexpr.specs.declared.arguments.Passed.{Passed}
@@ -62,17 +62,23 @@ use Rattle.c65_genexpr.specs.Arguments.{is_fast, is_counted, stays, passed_size,
 use Rattle.c65_genexpr.specs.Calls.{named_in, named}
 use Rattle.c65_genexpr.specs.Uses.{unless_named, by_relation, uses, node_uses, args_uses, comparison_uses}
 use Rattle.c65_genfield.specs.Bits.{byte_field}
-use Rattle.c65_genexpr.specs.Code.{width_in, constant_code, tested_load, load_by, behind_open, compound, call_by, expr_code, node_code, base_code, pointer_base_code, args_code, operator_code, comparison_code, joint_code}
-use Rattle.c65_gen_law_lines.proofs.Drops.{sum_uses}
+use Rattle.c65_genexpr.specs.Code.{width_in, constant_code, tested_load, load_by, behind_open, compound, call_by, expr_code, node_code, base_code, pointer_base_code, low_value_code, index_code, sum_index_code, args_code, operator_code, side_code, comparison_code, joint_code}
+use Rattle.c65_gendirect.specs.Words.{first_byte_code}
+use Rattle.c65_genexpr.specs.declared.elements.Element.{Element}
+use Rattle.c65_genexpr.specs.Elements.{sum_element, element_of, element_at, loaded_element, element_byte_code}
+use Rattle.c65_genexpr.specs.Lows.{is_number, byte_in, low_operand, behind_pointer}
+use Rattle.c65_gen_law_lines.proofs.Drops.{sum_uses, low_left, low_right}
+use Rattle.c65_gen_law_lines.proofs.Elements.{sum_indexes, onward_from, element_from, low_reads}
 use Rattle.c65_asm_law.proofs.Well.{AllWell, well_append, well_none, well_more, well_if}
 use Rattle.c65_asm_law.proofs.Loads.{WellPlace, narrow_well, bytes_well, number_well, symbol_well, offset_well, push_well, test_well, hold_well, store_well, copy_well}
 use Rattle.c65_asm_law.proofs.Known.{Knows}
 use Rattle.c65_asm_law.proofs.Places.{place_well, object_well, further_well, spill_well, conversion_well, unary_well, open_well, close_well, named_well, direct_well, pointer_well, argument_well}
-use Rattle.c65_asm_law.proofs.Directs.{WellRead, read_bytes_well, byte_through_well, word_through_well, zero_test_well, truth_well}
+use Rattle.c65_asm_law.proofs.Directs.{WellRead, read_bytes_well, byte_through_well, word_through_well, first_byte_well, zero_test_well, truth_well}
 use Rattle.c65_asm_law.proofs.Steps.{step_well}
 use Rattle.c65_asm_law.proofs.Pointed.{arrived_well, fetch_well}
+use Rattle.c65_asm_law.proofs.Elements.{WellWanted, element_well, byte_in_well, operand_well, read_room, index_room, byte_of_well, loaded_well, element_or_well, operand_or_well, behind_well, low_load_well}
 use Rattle.c65_asm_law.proofs.Fields.{loaded_test_well}
-use Rattle.c65_asm_law.proofs.Forms.{WellStoring, storing_well, keep_well, byte_behind_well, word_behind_well, kept_well, own_well, comparing_well, comparison_well, operating_well, operator_well}
+use Rattle.c65_asm_law.proofs.Forms.{WellStoring, storing_well, keep_well, byte_behind_well, word_behind_well, kept_well, own_well, low_well, comparing_well, comparison_well, operating_well, operator_well}
 
 target_well : (n : ℕ) (p : Place) (code : List Line) → AllWell n code → AllWell n (target_code p code)
 target_well n (places.Far at) code h = h
@@ -80,11 +86,7 @@ target_well n (places.Bank b) code h = well_none n
 target_well n (places.Near at) code h = well_none n
 target_well n (places.Data s at) code h = well_none n
 
--- ---- tests lead to labels of 32 bits
-
-abbrev pub WellWanted : Wanted → Type 0
-WellWanted Value = Unit {0}
-WellWanted (Test to s) = to < 2 ^ 32
+-- ---- tests
 
 value_test_well : (n : ℕ) (w : Width) (s : Bool) (to : ℕ) → to < 2 ^ 32 → AllWell n (value_test_code w s to)
 value_test_well n w s to aim = well_append n (test_code w) (branch_code s to) (test_well n w) (record { all = ((tt, aim), tt) })
@@ -226,6 +228,15 @@ tree_handed n f e pushed lo same Value tree few aim room = tree pushed lo Value 
 tree_handed n f e pushed lo true (Test to s) tree few aim room = tree pushed lo (Test to s) few aim room
 tree_handed n f e pushed lo false (Test to s) tree few aim room = tree pushed lo Value few tt room
 
+-- and those of its low byte
+abbrev WellLow : ℕ → Framed → Typed → Type 0
+WellLow n f e = (pushed lo : ℕ) → pushed < 2 ^ 16 → lo + uses None e ≤ 2 ^ 32 → AllWell n (low_value_code f pushed lo e)
+
+-- a side, or the low byte of it
+side_well : (n : ℕ) (f : Framed) (pushed lo : ℕ) (low : Bool) (w : Wanted) (e : Typed) → (low ≡ true → AllWell n (low_value_code f pushed lo e)) → AllWell n (expr_code f pushed lo w e) → AllWell n (side_code f pushed lo low w e)
+side_well n f pushed lo true w e hl hw = hl refl
+side_well n f pushed lo false w e hl hw = hw
+
 operator_in : (n : ℕ) (u : UnitTy) (f : Framed) (pushed lo : ℕ) (d : Destination) (op : BinaryOp) (a b : Typed) → Knows f u n → IsTyped u a → IsTyped u b → WellTree n f a → WellTree n f b → pushed < 2 ^ 16 → lo + (1 + (uses None a + uses None b)) ≤ 2 ^ 32 → AllWell n (operator_code f pushed lo d op a b)
 operator_in n u f pushed lo d op a b knows ha hb ta tb few room =
     let operands : Operands = operands_of f (bare a) (bare b) in
@@ -235,24 +246,31 @@ operator_in n u f pushed lo d op a b knows ha hb ta tb few room =
     let right : AllWell n (expr_code f (below_operand how pushed bytes) (lo + 1 + uses None a) Value b) = tb (below_operand how pushed bytes) (lo + 1 + uses None a) Value (below_operand_few how pushed bytes few) tt (omega (arith, room)) in
     operator_well n d how op operands (kind_in b) lo _ _ (operating_well n u f pushed op operands a b knows ha hb) (omega (arith, room)) left right
 
-comparison_in : (n : ℕ) (u : UnitTy) (f : Framed) (pushed own to : ℕ) (s : Bool) (op : BinaryOp) (r : Relation) (a b : Typed) → Knows f u n → IsTyped u a → IsTyped u b → WellTree n f a → WellTree n f b → pushed < 2 ^ 16 → to < 2 ^ 32 → own + comparison_uses (relation_by s r) a b ≤ 2 ^ 32 → AllWell n (comparison_code f pushed own to s op r a b)
-comparison_in n u f pushed own to s op r a b knows ha hb ta tb few aim room =
+comparison_in : (n : ℕ) (u : UnitTy) (f : Framed) (pushed own to : ℕ) (s : Bool) (op : BinaryOp) (r : Relation) (a b : Typed) → Knows f u n → IsTyped u a → IsTyped u b → WellTree n f a → WellTree n f b → WellLow n f a → WellLow n f b → pushed < 2 ^ 16 → to < 2 ^ 32 → own + comparison_uses (relation_by s r) a b ≤ 2 ^ 32 → AllWell n (comparison_code f pushed own to s op r a b)
+comparison_in n u f pushed own to s op r a b knows ha hb ta tb la lb few aim room =
     let operands : Operands = operands_of f (bare a) (bare b) in
     let q : Relation = relation_by s r in
     let how : Comparing = comparing_of f pushed q (computes operands) a b in
     let bytes : ℕ = waiting (width_of (computes operands)) in
-    let left : AllWell n (expr_code f pushed (own + 1) (wanted_by (tested_by q b) to) a) = tree_by n f a pushed (own + 1) (tested_by q b) to ta few aim (omega (arith, room)) in
-    let right : AllWell n (expr_code f (below_side how pushed bytes) (own + 1 + uses (tested_by q b) a) (wanted_by (tested_by q a) to) b) = tree_by n f b (below_side how pushed bytes) (own + 1 + uses (tested_by q b) a) (tested_by q a) to tb (below_side_few how pushed bytes few) aim (omega (arith, room)) in
+    let below : ℕ = below_side how pushed bytes in
+    let next : ℕ = own + 1 + uses (tested_by q b) a in
+    let fewer : below < 2 ^ 16 = below_side_few how pushed bytes few in
+    let left : AllWell n (side_code f pushed (own + 1) (takes_low how) (wanted_by (tested_by q b) to) a) = side_well n f pushed (own + 1) (takes_low how) (wanted_by (tested_by q b) to) a
+    (λ h. la pushed (own + 1) few (omega (arith, room, ap (λ (x : Option Bool). uses x a) (low_left f pushed q (computes operands) a b h))))
+    (tree_by n f a pushed (own + 1) (tested_by q b) to ta few aim (omega (arith, room))) in
+    let right : AllWell n (side_code f below next (takes_low how) (wanted_by (tested_by q a) to) b) = side_well n f below next (takes_low how) (wanted_by (tested_by q a) to) b
+    (λ h. lb below next fewer (omega (arith, room, ap (λ (x : Option Bool). uses x b) (low_right f pushed q (computes operands) a b h))))
+    (tree_by n f b below next (tested_by q a) to tb fewer aim (omega (arith, room))) in
     comparison_well n how op operands (kind_in b) s to own _ _ (comparing_well n u f pushed q (computes operands) a b knows ha hb) aim (omega (arith, room)) left right
 
 -- a comparison, or another operator
-binary_well : (n : ℕ) (u : UnitTy) (f : Framed) (pushed lo : ℕ) (w : Wanted) (width : Width) (m : Option Relation) (op : BinaryOp) (a b : Typed) → Knows f u n → IsTyped u a → IsTyped u b → WellTree n f a → WellTree n f b → pushed < 2 ^ 16 → WellWanted w
+binary_well : (n : ℕ) (u : UnitTy) (f : Framed) (pushed lo : ℕ) (w : Wanted) (width : Width) (m : Option Relation) (op : BinaryOp) (a b : Typed) → Knows f u n → IsTyped u a → IsTyped u b → WellTree n f a → WellTree n f b → WellLow n f a → WellLow n f b → pushed < 2 ^ 16 → WellWanted w
     → lo + by_relation m (1 + (uses None a + uses None b)) (λ r. truth_labels (sense_of w) + comparison_uses (relation_by (sense w) r) a b) ≤ 2 ^ 32
     → AllWell n (by_relation m (wanted w width (operator_code f pushed lo Registers op a b)) (λ r. truth_by w lo (comparison_code f pushed (inner w lo) (aimed w lo) (sense w) op r a b)))
-binary_well n u f pushed lo w width None op a b knows ha hb ta tb few aim room = wanted_well n w width _ aim (operator_in n u f pushed lo Registers op a b knows ha hb ta tb few room)
-binary_well n u f pushed lo w width (Some r) op a b knows ha hb ta tb few aim room =
+binary_well n u f pushed lo w width None op a b knows ha hb ta tb la lb few aim room = wanted_well n w width _ aim (operator_in n u f pushed lo Registers op a b knows ha hb ta tb few room)
+binary_well n u f pushed lo w width (Some r) op a b knows ha hb ta tb la lb few aim room =
     let to : aimed w lo < 2 ^ 32 = aim_low w lo (comparison_uses (relation_by (sense w) r) a b) aim room in
-    truth_by_well n w lo _ (omega (arith, room)) (comparison_in n u f pushed (inner w lo) (aimed w lo) (sense w) op r a b knows ha hb ta tb few to (omega (arith, room)))
+    truth_by_well n w lo _ (omega (arith, room)) (comparison_in n u f pushed (inner w lo) (aimed w lo) (sense w) op r a b knows ha hb ta tb la lb few to (omega (arith, room)))
 
 -- the same where the result goes elsewhere
 binary_base_well : (n : ℕ) (u : UnitTy) (f : Framed) (pushed lo : ℕ) (d : Destination) (m : Option Relation) (t : QTy) (op : BinaryOp) (a b : Typed) → Knows f u n → IsTyped u a → IsTyped u b → WellTree n f a → WellTree n f b → pushed < 2 ^ 16
@@ -292,7 +310,9 @@ mutual
   node_well n u f pushed lo w t (member e m) knows h few aim room = wanted_well n w (width_in t) _ aim (well_append n (expr_code f pushed lo Value e) _ (expr_well n u f pushed lo Value e knows h.0 few tt room) (offset_well n (offset_at (types_of f.parts.types) (bare e) m)))
   node_well n u f pushed lo w t (load e) knows h few aim room =
       let access : Access = access_of (types_of f.parts.types) e in
-      load_by_well n w (place_of f pushed e) access _ (place_well n u f pushed e knows h.0) aim (base_well n u f pushed lo (destination_of access) e knows h.0 few room)
+      element_or_well n (element_at f e) (λ x. loaded_element w x (index_code f pushed lo e)) _ (element_well n u f e knows h.0)
+      (λ x found there. loaded_well n w x _ there aim (element_from f e x (λ y is. index_well n u f pushed lo e y knows h.0 is few room) found))
+      (load_by_well n w (place_of f pushed e) access _ (place_well n u f pushed e knows h.0) aim (base_well n u f pushed lo (destination_of access) e knows h.0 few room))
   node_well n u f pushed lo w t (address e) knows h few aim room = wanted_well n w (width_in t) _ aim (expr_well n u f pushed lo Value e knows h.0 few tt room)
   node_well n u f pushed lo w t (decay e) knows h few aim room = wanted_well n w (width_in t) _ aim (expr_well n u f pushed lo Value e knows h.0 few tt room)
   node_well n u f pushed lo w t (convert e) knows h few aim room =
@@ -302,7 +322,8 @@ mutual
       truth_by_well n w lo _ (omega (arith, room)) (expr_well n u f pushed (inner w lo) (Test (aimed w lo) (not (sense w))) e knows h.0 few (aim_low w lo (uses (Some (not (sense w))) e) aim room) (omega (arith, room)))
   node_well n u f pushed lo w t (unary op e) knows h few aim room = wanted_well n w (width_in t) _ aim (well_append n (expr_code f pushed lo Value e) _ (expr_well n u f pushed lo Value e knows h.0 few tt room) (unary_well n op (width_of (kind_in e))))
   node_well n u f pushed lo w t (binary op a b) knows h few aim room =
-      binary_well n u f pushed lo w (width_in t) (relation_of op) op a b knows h.0 h.1 (λ p l v. expr_well n u f p l v a knows h.0) (λ p l v. expr_well n u f p l v b knows h.1) few aim room
+      binary_well n u f pushed lo w (width_in t) (relation_of op) op a b knows h.0 h.1 (λ p l v. expr_well n u f p l v a knows h.0) (λ p l v. expr_well n u f p l v b knows h.1)
+      (λ p l. low_value_well n u f p l a knows h.0) (λ p l. low_value_well n u f p l b knows h.1) few aim room
   node_well n u f pushed lo w t (both a b) knows h few aim room =
       joint_well n f pushed lo w false a b (λ p l v. expr_well n u f p l v a knows h.0) (λ p l v. expr_well n u f p l v b knows h.1) few aim room
   node_well n u f pushed lo w t (either a b) knows h few aim room =
@@ -357,6 +378,39 @@ mutual
   pointer_base_well n u f pushed lo d (node t (address e)) knows h few room = base_well n u f pushed lo d e knows h.0 few room
   pointer_base_well n u f pushed lo d (node t (decay e)) knows h few room = base_well n u f pushed lo d e knows h.0 few room
   pointer_base_well n u f pushed lo d (node t e) knows h few room = well_append n (node_code f pushed lo Value t e) (arrived d) (node_well n u f pushed lo Value t e knows h few tt room) (arrived_well n d)
+
+  low_value_well : (n : ℕ) (u : UnitTy) (f : Framed) (pushed lo : ℕ) (e : Typed) → Knows f u n → IsTyped u e → pushed < 2 ^ 16 → lo + uses None e ≤ 2 ^ 32 → AllWell n (low_value_code f pushed lo e)
+  low_value_well n u f pushed lo (node t (convert e)) knows h few room =
+      low_well n (byte_in f pushed (node t (convert e))) _ (byte_in_well n u f pushed (node t (convert e)) knows h)
+      (well_if n (is_number (type_in t) && is_number (bare e)) (low_value_code f pushed lo e) (node_code f pushed lo Value t (convert e)) (low_value_well n u f pushed lo e knows h.0 few room) (node_well n u f pushed lo Value t (convert e) knows h few tt room))
+  low_value_well n u f pushed lo (node t (binary op a b)) knows h few room =
+      low_well n (byte_in f pushed (node t (binary op a b))) _ (byte_in_well n u f pushed (node t (binary op a b)) knows h)
+      (operand_or_well n (low_operand f pushed op a b) (λ d. Label lo ∷ (low_value_code f pushed (lo + 1) a ++ first_byte_code op d)) _ (operand_well n u f pushed op a b knows h.1)
+      (λ d found byte.
+      let own = read_room f t op a b (low_reads f pushed op a b d found) in
+      well_more n _ _ (omega (arith, room, own)) (well_append n (low_value_code f pushed (lo + 1) a) _ (low_value_well n u f pushed (lo + 1) a knows h.0 few (omega (arith, room, own))) (first_byte_well n op d byte)))
+      (node_well n u f pushed lo Value t (binary op a b) knows h few tt room))
+  low_value_well n u f pushed lo (node t (load e)) knows h few room =
+      let place : Place = place_of f pushed e in
+      let access : Access = access_of (types_of f.parts.types) e in
+      low_well n (byte_in f pushed (node t (load e))) _ (byte_in_well n u f pushed (node t (load e)) knows h)
+      (element_or_well n (element_at f e) (λ x. index_code f pushed lo e ++ element_byte_code x.0) _ (element_well n u f e knows h.0)
+      (λ x found there. well_append n (index_code f pushed lo e) _ (element_from f e x (λ y is. index_well n u f pushed lo e y knows h.0 is few room) found) (byte_of_well n x.0 there))
+      (low_load_well n (behind_pointer place access) _ _ (behind_well n place access (place_well n u f pushed e knows h.0)) (base_well n u f pushed lo Pointer e knows h.0 few room) (node_well n u f pushed lo Value t (load e) knows h few tt room)))
+  low_value_well n u f pushed lo (node t e) knows h few room =
+      low_well n (byte_in f pushed (node t e)) _ (byte_in_well n u f pushed (node t e) knows h) (node_well n u f pushed lo Value t e knows h few tt room)
+
+  pub index_well : (n : ℕ) (u : UnitTy) (f : Framed) (pushed lo : ℕ) (e : Typed) (x : Element) → Knows f u n → IsTyped u e → element_of f e ≡ Some x → pushed < 2 ^ 16 → lo + uses None e ≤ 2 ^ 32 → AllWell n (index_code f pushed lo e)
+  index_well n u f pushed lo (node t (deref e)) x knows h is few room = sum_index_well n u f pushed lo e x knows h.0 is few room
+  index_well n u f pushed lo (node t (member e m)) x knows h is few room =
+      onward_from (offset_at (types_of f.parts.types) (bare e) m) (element_of f e) x (λ y found. index_well n u f pushed lo e y knows h.0 found few room) is
+  index_well n u f pushed lo (node t _) x knows h is few room = absurd cc
+
+  sum_index_well : (n : ℕ) (u : UnitTy) (f : Framed) (pushed lo : ℕ) (e : Typed) (x : Element) → Knows f u n → IsTyped u e → sum_element f e ≡ Some x → pushed < 2 ^ 16 → lo + uses None e ≤ 2 ^ 32 → AllWell n (sum_index_code f pushed lo e)
+  sum_index_well n u f pushed lo (node t (binary op a b)) x knows h is few room =
+      let own = index_room f t op a b (sum_indexes f t op a b x is) in
+      well_more n _ _ (omega (arith, room, own)) (low_value_well n u f pushed (lo + 1) b knows h.1 few (omega (arith, room, own)))
+  sum_index_well n u f pushed lo (node t _) x knows h is few room = absurd cc
 
   -- one that gives a structure
   called_well : (n : ℕ) (u : UnitTy) (f : Framed) (pushed lo : ℕ) (t : QTy) (e : Typed) → Knows f u n → IsCalled u t e → pushed < 2 ^ 16 → lo + uses None e ≤ 2 ^ 32 → AllWell n (expr_code f pushed lo Value e)

@@ -59,7 +59,7 @@ use Rattle.c65_genexpr.specs.Comparing.{tested_by, lowest, is_raised, raised, on
 use Rattle.c65_genexpr.specs.Operating.{sum_by, mask_by, number_form, offset_form, constant_form, pair_of, word_in, word_if, element_form, right_form, under_if, left_form, constant_right, direct_right, direct_left, by_left, by_right, operating_of, placed, value_form, pointed_word, pointed_form, form_code, waiting_code, stacked_code, operator_by, reading_of, is_light, held_elements, held_form, held_if}
 use Rattle.c65_genexpr.specs.Operating as operators
 use Rattle.c65_genexpr.specs.Comparing as comparisons
-use Rattle.c65_genexpr.specs.Held.{held_low, held_high, keep_code, byte_behind_code, word_behind_code}
+use Rattle.c65_genexpr.specs.Held.{held_low, held_high, keep_code, keep_byte_code, byte_behind_code, word_behind_code}
 use Rattle.c65_genexpr.specs.Wanted.{branch_code}
 use Rattle.c65_asm_law.proofs.Well.{AllWell, well_append, well_none, well_more}
 use Rattle.c65_asm_law.proofs.Known.{Knows}
@@ -222,6 +222,7 @@ WellComparing n (compared.Truth side) = Unit {0}
 WellComparing n (compared.Byte side low r byte) = WellMaybe n low × WellByte n byte
 WellComparing n (compared.Whole side r signed sides) = WellSides n sides
 WellComparing n (compared.Held r signed) = Unit {0}
+WellComparing n (compared.HeldByte r) = Unit {0}
 WellComparing n compared.Stacked = Unit {0}
 
 abbrev WellSome : ℕ → Option Sides → Type 0
@@ -262,7 +263,7 @@ lowest_well : (n : ℕ) (sides : Sides) → WellSides n sides → WellByte n (lo
 lowest_well n (Word low high) h = h.0
 lowest_well n (Long d0 d1 d2 d3) h = h.0
 
-first_well : (n : ℕ) (d : Option Direct) → WellRead n d → WellMaybe n (option_and_then (λ x. byte_of x 0) d)
+pub first_well : (n : ℕ) (d : Option Direct) → WellRead n d → WellMaybe n (option_and_then (λ x. byte_of x 0) d)
 first_well n None h = tt
 first_well n (Some d) h = byte_well n d 0 h
 
@@ -290,29 +291,31 @@ beside_well n side r few kind first (Some d) h k =
 compared_well : (n : ℕ) (r : Relation) (few : Bool) (kind : IntType) (pure : Bool) (a b : Option Direct) → WellRead n a → WellRead n b → WellComparing n (compared_by r few kind pure a b)
 compared_well n r few kind pure a b h k = comparing_if n (changes kind pure a b) _ _ (beside_well n Right (mirrored r) few kind b a k h) (beside_well n Left r few kind a b h k)
 
-held_by_well : (n : ℕ) (is : Bool) (w : Width) (r : Relation) (kind : IntType) → WellComparing n (held_by is w r kind)
-held_by_well n true Ax r kind = tt
-held_by_well n true Eax r kind = tt
-held_by_well n false w r kind = tt
+held_by_well : (n : ℕ) (is few : Bool) (w : Width) (r : Relation) (kind : IntType) → WellComparing n (held_by is few w r kind)
+held_by_well n true true Ax r kind = tt
+held_by_well n true false Ax r kind = tt
+held_by_well n true few Eax r kind = tt
+held_by_well n false few w r kind = tt
 
 or_held_well : (n : ℕ) (how held : Comparing) → WellComparing n how → WellComparing n held → WellComparing n (comparisons.or_held how held)
 or_held_well n (compared.Truth side) held h k = h
 or_held_well n (compared.Byte side low r byte) held h k = h
 or_held_well n (compared.Whole side r signed sides) held h k = h
 or_held_well n (compared.Held r signed) held h k = h
+or_held_well n (compared.HeldByte r) held h k = h
 or_held_well n compared.Stacked held h k = k
 
 pub comparing_well : (n : ℕ) (u : UnitTy) (f : Framed) (pushed : ℕ) (r : Relation) (kind : IntType) (a b : Typed) → Knows f u n → IsTyped u a → IsTyped u b → WellComparing n (comparing_of f pushed r kind a b)
 comparing_well n u f pushed r kind a b knows h k =
     comparing_if n (is_some (tested_by r b)) (compared.Truth Left) _ tt
     (comparing_if n (is_some (tested_by r a)) (compared.Truth Right) _ tt
-    (or_held_well n (compared_by r (is_byte a && is_byte b) kind (is_pure b) (direct_of f pushed a) (direct_of f pushed b)) _ (compared_well n r (is_byte a && is_byte b) kind (is_pure b) (direct_of f pushed a) (direct_of f pushed b) (read_well n u f pushed a knows h) (read_well n u f pushed b knows k)) (held_by_well n (is_light f pushed b) (width_of kind) r kind)))
+    (or_held_well n (compared_by r (is_byte a && is_byte b) kind (is_pure b) (direct_of f pushed a) (direct_of f pushed b)) _ (compared_well n r (is_byte a && is_byte b) kind (is_pure b) (direct_of f pushed a) (direct_of f pushed b) (read_well n u f pushed a knows h) (read_well n u f pushed b knows k)) (held_by_well n (is_light f pushed b) (is_byte a && is_byte b) (width_of kind) r kind)))
 
 on_well : (n : ℕ) (side : Side) (a b : List Line) → AllWell n a → AllWell n b → AllWell n (on side a b)
 on_well n Left a b h k = h
 on_well n Right a b h k = k
 
-low_well : (n : ℕ) (byte : Option OperandByte) (lines : List Line) → WellMaybe n byte → AllWell n lines → AllWell n (low_code byte lines)
+pub low_well : (n : ℕ) (byte : Option OperandByte) (lines : List Line) → WellMaybe n byte → AllWell n lines → AllWell n (low_code byte lines)
 low_well n None lines h k = k
 low_well n (Some byte) lines h k = op_well n _ byte h
 
@@ -325,12 +328,17 @@ word_behind_well n at few = record { all = ((tt, few), ((tt, omega arith), ((tt,
 pub keep_well : (n : ℕ) → AllWell n keep_code
 keep_well n = record { all = ((tt, omega arith), ((tt, omega arith), tt)) }
 
+keep_byte_well : (n : ℕ) → AllWell n keep_byte_code
+keep_byte_well n = record { all = ((tt, omega arith), tt) }
+
 pub comparison_well : (n : ℕ) (how : Comparing) (op : BinaryOp) (operands : Operands) (right : IntType) (s : Bool) (to own : ℕ) (a b : List Line) → WellComparing n how → to < 2 ^ 32 → own < 2 ^ 32 → AllWell n a → AllWell n b → AllWell n (comparison_by how op operands right s to own a b)
 comparison_well n (compared.Truth side) op operands right s to own a b h low room ha hb = labelled_well n own _ room (on_well n side a b ha hb)
 comparison_well n (compared.Byte side first r byte) op operands right s to own a b h low room ha hb = labelled_well n own _ room (well_append n (low_code first (on side a b)) _ (low_well n first (on side a b) h.0 (on_well n side a b ha hb)) (compare_byte_well n r byte to h.1 low))
 comparison_well n (compared.Whole side r signed sides) op operands right s to own a b h low room ha hb = well_append n (on side a b) _ (on_well n side a b ha hb) (compare_well n r signed sides own to h room low)
 comparison_well n (compared.Held r signed) op operands right s to own a b h low room ha hb =
     well_append n a _ ha (well_append n keep_code _ (keep_well n) (well_append n b _ hb (compare_well n r signed (Word held_low held_high) own to (omega arith, omega arith) room low)))
+comparison_well n (compared.HeldByte r) op operands right s to own a b h low room ha hb =
+    labelled_well n own _ room (well_append n a _ ha (well_append n keep_byte_code _ (keep_byte_well n) (well_append n b _ hb (compare_byte_well n r held_low to (omega arith) low))))
 comparison_well n compared.Stacked op operands right s to own a b h low room ha hb =
     let last : AllWell n (implied _ ∷ branch_code s to) = record { all = ((tt, tt), ((tt, low), tt)) } in
     labelled_well n own _ room (well_append n a _ ha (well_append n (between_code operands) _ (between_well n operands) (well_append n b _ hb (well_append n (behind_code op operands right) _ (behind_well n op operands right) last))))
@@ -348,7 +356,7 @@ WellForm n (forms.Indexed size low high) = WellByte n low × WellByte n high
 WellForm n (forms.Distance size low high) = WellByte n low × WellByte n high
 WellForm n (forms.DistanceUnder size low high) = WellByte n low × WellByte n high
 
-abbrev WellForms : ℕ → Option Form → Type 0
+abbrev pub WellForms : ℕ → Option Form → Type 0
 WellForms n None = Unit {0}
 WellForms n (Some form) = WellForm n form
 
@@ -445,7 +453,7 @@ direct_left_well : (n : ℕ) (op : BinaryOp) (operands : Operands) (a : Option D
 direct_left_well n op operands None h = tt
 direct_left_well n op operands (Some d) h = taken_left n op operands (byte_of d 0) (byte_of d 1) (byte_well n d 0 h) (byte_well n d 1 h)
 
-constant_right_well : (n : ℕ) (op : BinaryOp) (operands : Operands) (b : Typed) → WellForms n (constant_right op operands b)
+pub constant_right_well : (n : ℕ) (op : BinaryOp) (operands : Operands) (b : Typed) → WellForms n (constant_right op operands b)
 constant_right_well n op operands (node t (constant z)) = constant_well n op operands (residue_of z)
 constant_right_well n op operands (node t _) = tt
 
@@ -496,7 +504,7 @@ placed_well n ops.Add l room = well_none n
 placed_well n ops.Sub l room = well_none n
 placed_well n _ l room = record { all = (room, tt) }
 
-value_well : (n : ℕ) (form : Form) (l : ℕ) → WellForm n form → l < 2 ^ 32 → AllWell n (value_form form l)
+pub value_well : (n : ℕ) (form : Form) (l : ℕ) → WellForm n form → l < 2 ^ 32 → AllWell n (value_form form l)
 value_well n (forms.Sum m) l h room = add_number_well n m l room
 value_well n (forms.LongSum m) l h room = labelled_well n l _ room (add_long_well n m)
 value_well n (forms.Mask op m) l h room = labelled_well n l _ room (long_mask_well n op m)

@@ -1,6 +1,6 @@
 -- The functions of a program.
-use Rattle.std.proofs.Common.{◌≡◌, ℕ, zero, suc, ◌+◌, ◌<◌, ◌≤◌, ◌^◌, ◌==◌, Bool, true, false, Option, None, Some, List, [], ◌∷◌, ◌++◌, length, slice_get, refl, sym, ap, subst, ◌∙◌, arith}
-use Rattle.std.specs.Prelude.{Result, Ok, Err, nat_lt}
+use Rattle.std.proofs.Common.{◌≡◌, ℕ, zero, suc, ◌+◌, ◌<◌, ◌≤◌, ◌^◌, ◌==◌, Bool, true, false, not, Option, None, Some, List, [], ◌∷◌, ◌++◌, length, slice_get, refl, sym, ap, subst, ◌∙◌, arith}
+use Rattle.std.specs.Prelude.{◌&&◌, Result, Ok, Err, nat_lt}
 use Rattle.c65_base.specs.declared.refusal.Size.TheVariants as sizes
 use Rattle.c65_base.specs.Answers.{Fault, large, ◌>>=◌}
 use Rattle.c65_ctype.specs.Trees.{type_in}
@@ -36,7 +36,7 @@ use Rattle.c65_genstmt.specs.declared.objects.Spot.TheVariants.{Bank, Soft, Data
 use Rattle.c65_genstmt.specs.Cases.{room_of}
 use Rattle.c65_genstmt.specs.Jumps.{following, with_value, with_test}
 use Rattle.c65_genstmt.specs.Objects.{spot_of, object_bytes, with_kept, with_zeros}
-use Rattle.c65_genstmt.specs.Stmts.{case_behind, with_label, with_jump, two_given, three_given, with_maybe, with_effects, with_guard, ways, with_choice, with_stmt, with_stmts}
+use Rattle.c65_genstmt.specs.Stmts.{case_behind, with_label, two_given, three_given, with_maybe, with_effects, with_guard, ways, with_choice, with_stmt, with_stmts, with_last, with_lasts, is_empty, with_way, returns_last}
 use Rattle.c65_genstmt.specs.Functions.{gives_of, main_code, no_lines, with_function, segment_of, function_of}
 use Rattle.c65_genstmt.specs.Programs.{one_more, function_added, functions_from}
 use Rattle.c65_gen_law_lines.proofs.FrameLaws.{answered}
@@ -46,7 +46,7 @@ use Rattle.c65_asm_law.proofs.Well.{AllWell, well_append, well_none, letters_non
 use Rattle.c65_asm_law.proofs.Known.{KnowsBy, Knows}
 use Rattle.c65_asm_law.proofs.Moves.{frames_move}
 use Rattle.c65_asm_law.proofs.Entries.{entry_well, end_well}
-use Rattle.c65_asm_law.proofs.Stmts.{stmt_well}
+use Rattle.c65_asm_law.proofs.Stmts.{last_well}
 use Rattle.c65_asm_law.proofs.Lists.{Every, every_append, Rises, rises_wider, rises_more, IsRest, rest_first, rest_next}
 
 -- ---- what a function gives stays through its body
@@ -68,6 +68,10 @@ effects_out : (f : Framed) (e : MaybeTyped) (d : Drafted) → (with_effects f e 
 effects_out f absent d = refl
 effects_out f (present e) d = refl
 
+way_out : (at : Bool) (l : ℕ) (d : Drafted) → (with_way at l d).out ≡ d.out
+way_out true l d = refl
+way_out false l d = refl
+
 guard_out : (f : Framed) (to : ℕ) (e : MaybeTyped) (d : Drafted) → (with_guard f to e d).out ≡ d.out
 guard_out f to absent d = refl
 guard_out f to (present e) d = refl
@@ -82,7 +86,7 @@ mutual
   stmt_out f w l (if_stmt e a b) d =
       let m1 : Drafted = with_test f d.labels false e (two_given d) in
       let m2 : Drafted = with_stmt f w l a m1 in
-      stmt_out f w (case_behind l a) b (with_label d.labels (with_jump (d.labels + 1) m2)) ∙ stmt_out f w l a m1
+      stmt_out f w (case_behind l a) b (with_label d.labels (with_way (is_empty b) (d.labels + 1) m2)) ∙ (way_out (is_empty b) (d.labels + 1) m2 ∙ stmt_out f w l a m1)
   stmt_out f w l (while e a) d = stmt_out f (ways (d.labels + 1) d.labels w.other) l a (with_test f (d.labels + 1) false e (with_label d.labels (two_given d)))
   stmt_out f w l (do_while a e) d = stmt_out f (ways (d.labels + 1 + 1) (d.labels + 1) w.other) l a (with_label d.labels (three_given d))
   stmt_out f w l (for_loop i c n a) d =
@@ -105,6 +109,17 @@ mutual
   stmts_out f w l no_stmts d = refl
   stmts_out f w l (and_stmts a ss) d = stmts_out f w (case_behind l a) ss (with_stmt f w l a d) ∙ stmt_out f w l a d
 
+mutual
+  last_out : (f : Framed) (w : Ways) (l : ℕ) (s : Stmt) (d : Drafted) → (with_last f w l s d).out ≡ d.out
+  last_out f w l (block os ss) d = lasts_out f w l ss d
+  last_out f w l (return e) d = maybe_out f e d
+  last_out f w l a d = stmt_out f w l a d
+
+  lasts_out : (f : Framed) (w : Ways) (l : ℕ) (ss : Stmts) (d : Drafted) → (with_lasts f w l ss d).out ≡ d.out
+  lasts_out f w l no_stmts d = refl
+  lasts_out f w l (and_stmts a no_stmts) d = last_out f w l a d
+  lasts_out f w l (and_stmts a (and_stmts b ss)) d = lasts_out f w (case_behind l a) (and_stmts b ss) (with_stmt f w l a d) ∙ stmt_out f w l a d
+
 registers_letters : (bytes : ℕ) → IsLetters (registers bytes)
 registers_letters zero = letters_none
 registers_letters (suc zero) = letters_a
@@ -125,10 +140,10 @@ abbrev entered : Framed → Stmt → RegSet → Drafted
 entered f body out = with_lines (begun body out) (entry_code f)
 
 abbrev ran : Framed → Stmt → RegSet → Drafted
-ran f body out = with_stmt f (ways 0 0 0) 0 body (entered f body out)
+ran f body out = with_last f (ways 0 0 0) 0 body (entered f body out)
 
 abbrev ended : Framed → Bool → Stmt → RegSet → Drafted
-ended f is_main body out = with_label 0 (with_lines (ran f body out) (main_code is_main))
+ended f is_main body out = with_label 0 (with_lines (ran f body out) (main_code (is_main && not (returns_last body))))
 
 frame_parts : (parts : Parts) (modes : Modes) (g : FuncTy) (f : Framed) → frame_of parts modes g ≡ Ok f → f.parts ≡ parts
 frame_parts parts modes g f h =
@@ -140,10 +155,11 @@ body_well : (n : ℕ) (u : UnitTy) (parts : Parts) (modes : Modes) (g : FuncTy) 
     → (with_function f is_main (Some body) (no_lines out)).labels < 2 ^ 32 → AllWell n (with_function f is_main (Some body) (no_lines out)).lines
 body_well n u parts modes g body f is_main out knows well framed few =
     let m1 : Drafted = ran f body out in
+    let first : Bool = is_main && not (returns_last body) in
     let h0 : AllWell n (entered f body out).lines = entry_well n f (frames_move parts modes g f framed) in
-    let h1 : AllWell n m1.lines = stmt_well n u (context_of g body) f (ways 0 0 0) 0 body (entered f body out) knows well.typed (record { behind = omega arith; onward = omega arith; other = omega arith }) (omega arith) few h0 in
-    let h2 : AllWell n (with_lines m1 (main_code is_main)).lines = well_append n m1.lines (main_code is_main) h1 (main_well n is_main) in
-    let h3 : AllWell n (ended f is_main body out).lines = well_append n (with_lines m1 (main_code is_main)).lines (Label 0 ∷ []) h2 (record { all = (omega arith, tt) }) in
+    let h1 : AllWell n m1.lines = last_well n u (context_of g body) f (ways 0 0 0) 0 body (entered f body out) knows well.typed (record { behind = omega arith; onward = omega arith; other = omega arith }) (omega arith) few h0 in
+    let h2 : AllWell n (with_lines m1 (main_code first)).lines = well_append n m1.lines (main_code first) h1 (main_well n first) in
+    let h3 : AllWell n (ended f is_main body out).lines = well_append n (with_lines m1 (main_code first)).lines (Label 0 ∷ []) h2 (record { all = (omega arith, tt) }) in
     well_append n (ended f is_main body out).lines (end_code f) h3 (end_well n f)
 
 -- what holds of a function's lines
@@ -175,7 +191,7 @@ segment_well n parts is_main modes g body s name knows there well known few h =
     let knows_here : Knows f (unit_of parts) n = subst (λ (p : Parts). KnowsBy (numbers_of p) (unit_of parts) n) (sym (frame_parts parts modes g f made.1)) knows in
     let lines : AllWell n (with_function f is_main (Some body) (no_lines out)).lines = body_well n (unit_of parts) parts modes g body f is_main out knows_here well made.1 labels in
     let segment : IsSegment (with_function f is_main (Some body) (no_lines out)).lines = functions_are_segments (unit_of parts) g body f is_main out well (omega (arith, labels)) in
-    let gives : IsLetters (with_function f is_main (Some body) (no_lines out)).out = subst IsLetters (sym (stmt_out f (ways 0 0 0) 0 body (entered f body out))) (registers_letters (bytes_or (types_of parts.types) (type_in (result_of g.ty)) 0)) in
+    let gives : IsLetters (with_function f is_main (Some body) (no_lines out)).out = subst IsLetters (sym (last_out f (ways 0 0 0) 0 body (entered f body out))) (registers_letters (bytes_or (types_of parts.types) (type_in (result_of g.ty)) 0)) in
     let whole : WellFunction n (name, record { lines = (with_function f is_main (Some body) (no_lines out)).lines; out = (with_function f is_main (Some body) (no_lines out)).out }) = record { known = known; gives = gives; lines = lines; segment = segment } in
     let given : WellFunction n (name, segment_of parts is_main g f) = subst (λ (b : Option Stmt). WellFunction n (name, record { lines = (with_function f is_main b (no_lines out)).lines; out = (with_function f is_main b (no_lines out)).out })) (sym there) whole in
     subst (λ (z : Segment). WellFunction n (name, z)) same given

@@ -7,10 +7,12 @@ pub mod Places
 pub mod Directs
 pub mod Pointed
 pub mod Forms
+pub mod Elements
 pub mod Changes
 pub mod Fields
 pub mod Steps
 pub mod Exprs
+pub mod Placing
 pub mod Effects
 pub mod Moves
 pub mod Objects

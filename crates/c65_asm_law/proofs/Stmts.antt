@@ -1,10 +1,10 @@
 -- The lines of well typed statements.
-use Rattle.std.proofs.Common.{ℕ, ◌+◌, ◌<◌, ◌≤◌, ◌^◌, Bool, true, false, [], ◌∷◌, length, arith}
+use Rattle.std.proofs.Common.{◌≡◌, ℕ, ◌+◌, ◌<◌, ◌≤◌, ◌^◌, Bool, true, false, [], ◌∷◌, length, refl, arith}
 use Rattle.std.specs.Prelude.{if◌then◌else◌}
 use Rattle.std.proofs.lemmas.Option.{slice_get_within}
 use Rattle.c65_csem.specs.Trees.{Typed, MaybeTyped, absent, present, Stmt, empty, eval, set_part, clear, block, if_stmt, while, do_while, for_loop, switch, case, default, label, goto, break, continue, return, Stmts, no_stmts, and_stmts, UnitTy}
 use Rattle.c65_csem.specs.Typed.{IsTyped}
-use Rattle.c65_csem.specs.Statements.{cases_of, Context, looping, switching, IsStmt, AreStmts, IsMaybe, IsMaybeCondition}
+use Rattle.c65_csem.specs.Statements.{cases_of, Context, looping, switching, IsStmt, AreStmts, IsMaybe, IsMaybeCondition, IsReturn}
 use Rattle.c65_mach.specs.declared.rows.Op.TheVariants.{Jmp}
 use Rattle.c65_code.specs.declared.line.Line.TheVariants.{Label}
 use Rattle.c65_code.specs.Segments.{Drafted}
@@ -17,7 +17,7 @@ use Rattle.c65_genstmt.specs.declared.jumps.Ways.{Ways}
 use Rattle.c65_genstmt.specs.Jumps.{following, with_value, with_test}
 use Rattle.c65_genstmt.specs.Objects.{spot_of, object_bytes}
 use Rattle.c65_genstmt.specs.Cases.{has_default}
-use Rattle.c65_genstmt.specs.Stmts.{case_behind, case_behind_all, with_label, with_jump, two_given, three_given, with_maybe, with_effects, with_guard, ways, default_way, with_choice, with_stmt, with_stmts, with_cases}
+use Rattle.c65_genstmt.specs.Stmts.{case_behind, case_behind_all, with_label, with_jump, two_given, three_given, with_maybe, with_effects, with_guard, ways, default_way, with_choice, with_stmt, with_stmts, with_last, with_lasts, is_empty, with_way, with_cases}
 use Rattle.c65_asm_law.proofs.Well.{AllWell, well_append}
 use Rattle.c65_asm_law.proofs.Known.{Knows}
 use Rattle.c65_asm_law.proofs.Entries.{choice_well}
@@ -35,6 +35,10 @@ label_well n l d low h = well_append n d.lines (Label l ∷ []) h (record { all 
 jump_well : (n l : ℕ) (d : Drafted) → l < 2 ^ 32 → AllWell n d.lines → AllWell n (with_jump l d).lines
 jump_well n l d low h = well_append n d.lines (jump Jmp l ∷ []) h (record { all = ((tt, low), tt) })
 
+way_well : (n : ℕ) (at : Bool) (l : ℕ) (d : Drafted) → l < 2 ^ 32 → AllWell n d.lines → AllWell n (with_way at l d).lines
+way_well n true l d low h = h
+way_well n false l d low h = jump_well n l d low h
+
 -- ---- labels are given and never taken back
 
 maybe_grows : (f : Framed) (e : MaybeTyped) (d : Drafted) → d.labels ≤ (with_maybe f e d).labels
@@ -44,6 +48,10 @@ maybe_grows f (present e) d = omega arith
 effects_grow : (f : Framed) (e : MaybeTyped) (d : Drafted) → d.labels ≤ (with_effects f e d).labels
 effects_grow f absent d = omega arith
 effects_grow f (present e) d = omega arith
+
+way_labels : (at : Bool) (l : ℕ) (d : Drafted) → (with_way at l d).labels ≡ d.labels
+way_labels true l d = refl
+way_labels false l d = refl
 
 guard_grows : (f : Framed) (to : ℕ) (e : MaybeTyped) (d : Drafted) → d.labels ≤ (with_guard f to e d).labels
 guard_grows f to absent d = omega arith
@@ -59,7 +67,7 @@ mutual
   stmt_grows f w l (if_stmt e a b) d =
       let m1 : Drafted = with_test f d.labels false e (two_given d) in
       let m2 : Drafted = with_stmt f w l a m1 in
-      omega (arith, stmt_grows f w l a m1, stmt_grows f w (case_behind l a) b (with_label d.labels (with_jump (d.labels + 1) m2)))
+      omega (arith, stmt_grows f w l a m1, way_labels (is_empty b) (d.labels + 1) m2, stmt_grows f w (case_behind l a) b (with_label d.labels (with_way (is_empty b) (d.labels + 1) m2)))
   stmt_grows f w l (while e a) d = omega (arith, stmt_grows f (ways (d.labels + 1) d.labels w.other) l a (with_test f (d.labels + 1) false e (with_label d.labels (two_given d))))
   stmt_grows f w l (do_while a e) d = omega (arith, stmt_grows f (ways (d.labels + 1 + 1) (d.labels + 1) w.other) l a (with_label d.labels (three_given d)))
   stmt_grows f w l (for_loop i c n a) d =
@@ -79,6 +87,18 @@ mutual
   stmts_grow : (f : Framed) (w : Ways) (l : ℕ) (ss : Stmts) (d : Drafted) → d.labels ≤ (with_stmts f w l ss d).labels
   stmts_grow f w l no_stmts d = omega arith
   stmts_grow f w l (and_stmts a ss) d = omega (arith, stmt_grows f w l a d, stmts_grow f w (case_behind l a) ss (with_stmt f w l a d))
+
+-- and so it is with what stands last
+mutual
+  last_grows : (f : Framed) (w : Ways) (l : ℕ) (s : Stmt) (d : Drafted) → d.labels ≤ (with_last f w l s d).labels
+  last_grows f w l (block os ss) d = lasts_grow f w l ss d
+  last_grows f w l (return e) d = maybe_grows f e d
+  last_grows f w l a d = stmt_grows f w l a d
+
+  lasts_grow : (f : Framed) (w : Ways) (l : ℕ) (ss : Stmts) (d : Drafted) → d.labels ≤ (with_lasts f w l ss d).labels
+  lasts_grow f w l no_stmts d = omega arith
+  lasts_grow f w l (and_stmts a no_stmts) d = last_grows f w l a d
+  lasts_grow f w l (and_stmts a (and_stmts b ss)) d = omega (arith, stmt_grows f w l a d, lasts_grow f w (case_behind l a) (and_stmts b ss) (with_stmt f w l a d))
 
 -- ---- labels of cases
 
@@ -108,6 +128,10 @@ guard_well : (n : ℕ) (u : UnitTy) (f : Framed) (to : ℕ) (e : MaybeTyped) (d 
 guard_well n u f to absent d knows typed low few h = h
 guard_well n u f to (present e) d knows typed low few h = test_well n u f to false e d knows typed.0 low few h
 
+given_well : (n : ℕ) (u : UnitTy) (c : Context) (f : Framed) (e : MaybeTyped) (d : Drafted) → Knows f u n → IsReturn u c e → (with_maybe f e d).labels ≤ 2 ^ 32 → AllWell n d.lines → AllWell n (with_maybe f e d).lines
+given_well n u c f absent d knows typed few h = h
+given_well n u c f (present e) d knows typed few h = returned_well n u f e d knows typed.0 few h
+
 default_low : (end : ℕ) (b : Bool) → end + 1 < 2 ^ 32 → (if b then end + 1 else end) < 2 ^ 32
 default_low end true few = few
 default_low end false few = omega (arith, few)
@@ -124,7 +148,7 @@ head_well n u f e a d knows typed room few low h =
 -- ---- statements
 
 mutual
-  pub stmt_well : (n : ℕ) (u : UnitTy) (c : Context) (f : Framed) (w : Ways) (l : ℕ) (s : Stmt) (d : Drafted) → Knows f u n → IsStmt u c s → WellWays w → l < 2 ^ 32 → (with_stmt f w l s d).labels < 2 ^ 32 → AllWell n d.lines → AllWell n (with_stmt f w l s d).lines
+  stmt_well : (n : ℕ) (u : UnitTy) (c : Context) (f : Framed) (w : Ways) (l : ℕ) (s : Stmt) (d : Drafted) → Knows f u n → IsStmt u c s → WellWays w → l < 2 ^ 32 → (with_stmt f w l s d).labels < 2 ^ 32 → AllWell n d.lines → AllWell n (with_stmt f w l s d).lines
   stmt_well n u c f w l empty d knows typed go low few h = h
   stmt_well n u c f w l (eval e) d knows typed go low few h = effect_put_well n u f e d knows typed (omega (arith, few)) h
   stmt_well n u c f w l (set_part i o e) d knows typed go low few h = set_well n u f i o e d knows (knows.objects i (slice_get_within u.objects i typed.object typed.automatic.0)) typed.typed (omega (arith, few)) h
@@ -133,14 +157,15 @@ mutual
   stmt_well n u c f w l (if_stmt e a b) d knows typed go low few h =
       let m1 : Drafted = with_test f d.labels false e (two_given d) in
       let m2 : Drafted = with_stmt f w l a m1 in
-      let m3 : Drafted = with_jump (d.labels + 1) m2 in
+      let m3 : Drafted = with_way (is_empty b) (d.labels + 1) m2 in
       let m4 : Drafted = with_label d.labels m3 in
       let m5 : Drafted = with_stmt f w (case_behind l a) b m4 in
-      let second : m4.labels ≤ m5.labels = stmt_grows f w (case_behind l a) b m4 in
+      let same : m3.labels ≡ m2.labels = way_labels (is_empty b) (d.labels + 1) m2 in
+      let second : m2.labels ≤ m5.labels = omega (arith, same, stmt_grows f w (case_behind l a) b m4) in
       let first : m1.labels ≤ m2.labels = stmt_grows f w l a m1 in
       let h1 : AllWell n m1.lines = test_well n u f d.labels false e (two_given d) knows typed.0.0 (omega (arith, few, first, second)) (omega (arith, few, first, second)) h in
       let h2 : AllWell n m2.lines = stmt_well n u c f w l a m1 knows typed.1 go low (omega (arith, few, second)) h1 in
-      let h4 : AllWell n m4.lines = label_well n d.labels m3 (omega (arith, few, first, second)) (jump_well n (d.labels + 1) m2 (omega (arith, few, first, second)) h2) in
+      let h4 : AllWell n m4.lines = label_well n d.labels m3 (omega (arith, few, first, second)) (way_well n (is_empty b) (d.labels + 1) m2 (omega (arith, few, first, second)) h2) in
       let h5 : AllWell n m5.lines = stmt_well n u c f w (case_behind l a) b m4 knows typed.2 go (behind_low l a low) few h4 in
       label_well n (d.labels + 1) m5 (omega (arith, few, first, second)) h5
   stmt_well n u c f w l (while e a) d knows typed go low few h =
@@ -201,8 +226,7 @@ mutual
   stmt_well n u c f w l (goto i) d knows typed go low few h = jump_well n (following i) d (omega arith) h
   stmt_well n u c f w l break d knows typed go low few h = jump_well n w.behind d go.behind h
   stmt_well n u c f w l continue d knows typed go low few h = jump_well n w.onward d go.onward h
-  stmt_well n u c f w l (return absent) d knows typed go low few h = jump_well n 0 d (omega arith) h
-  stmt_well n u c f w l (return (present e)) d knows typed go low few h = jump_well n 0 (with_value f e d) (omega arith) (returned_well n u f e d knows typed.0 (omega (arith, few)) h)
+  stmt_well n u c f w l (return e) d knows typed go low few h = jump_well n 0 (with_maybe f e d) (omega arith) (given_well n u c f e d knows typed (omega (arith, few)) h)
 
   stmts_well : (n : ℕ) (u : UnitTy) (c : Context) (f : Framed) (w : Ways) (l : ℕ) (ss : Stmts) (d : Drafted) → Knows f u n → AreStmts u c ss → WellWays w → l < 2 ^ 32 → (with_stmts f w l ss d).labels < 2 ^ 32 → AllWell n d.lines → AllWell n (with_stmts f w l ss d).lines
   stmts_well n u c f w l no_stmts d knows typed go low few h = h
@@ -210,3 +234,19 @@ mutual
       let m1 : Drafted = with_stmt f w l a d in
       let grown : m1.labels ≤ (with_stmts f w (case_behind l a) ss m1).labels = stmts_grow f w (case_behind l a) ss m1 in
       stmts_well n u c f w (case_behind l a) ss m1 knows typed.1 go (behind_low l a low) few (stmt_well n u c f w l a d knows typed.0 go low (omega (arith, few, grown)) h)
+
+-- ---- what stands last
+
+mutual
+  pub last_well : (n : ℕ) (u : UnitTy) (c : Context) (f : Framed) (w : Ways) (l : ℕ) (s : Stmt) (d : Drafted) → Knows f u n → IsStmt u c s → WellWays w → l < 2 ^ 32 → (with_last f w l s d).labels < 2 ^ 32 → AllWell n d.lines → AllWell n (with_last f w l s d).lines
+  last_well n u c f w l (block os ss) d knows typed go low few h = lasts_well n u c f w l ss d knows typed.1 go low few h
+  last_well n u c f w l (return e) d knows typed go low few h = given_well n u c f e d knows typed (omega (arith, few)) h
+  last_well n u c f w l a d knows typed go low few h = stmt_well n u c f w l a d knows typed go low few h
+
+  lasts_well : (n : ℕ) (u : UnitTy) (c : Context) (f : Framed) (w : Ways) (l : ℕ) (ss : Stmts) (d : Drafted) → Knows f u n → AreStmts u c ss → WellWays w → l < 2 ^ 32 → (with_lasts f w l ss d).labels < 2 ^ 32 → AllWell n d.lines → AllWell n (with_lasts f w l ss d).lines
+  lasts_well n u c f w l no_stmts d knows typed go low few h = h
+  lasts_well n u c f w l (and_stmts a no_stmts) d knows typed go low few h = last_well n u c f w l a d knows typed.0 go low few h
+  lasts_well n u c f w l (and_stmts a (and_stmts b ss)) d knows typed go low few h =
+      let m1 : Drafted = with_stmt f w l a d in
+      let grown : m1.labels ≤ (with_lasts f w (case_behind l a) (and_stmts b ss) m1).labels = lasts_grow f w (case_behind l a) (and_stmts b ss) m1 in
+      lasts_well n u c f w (case_behind l a) (and_stmts b ss) m1 knows typed.1 go (behind_low l a low) few (stmt_well n u c f w l a d knows typed.0 go low (omega (arith, few, grown)) h)

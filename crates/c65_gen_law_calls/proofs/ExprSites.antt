@@ -1,6 +1,6 @@
 -- The lines of an expression call as its calls do, in their order.
 use Rattle.std.proofs.Common.{◌≡◌, ℕ, ◌+◌, Bool, true, false, not, Option, None, Some, IsSome, List, [], ◌∷◌, ◌++◌, refl, sym, ap, ◌∙◌}
-use Rattle.std.specs.Prelude.{if◌then◌else◌}
+use Rattle.std.specs.Prelude.{◌&&◌, if◌then◌else◌}
 use Rattle.c65_base.specs.declared.operators.BinaryOp.{BinaryOp}
 use Rattle.c65_ints.specs.declared.types.IntType.{IntType}
 use Rattle.c65_ints.specs.declared.types.IntType.TheVariants.{UInt}
@@ -33,7 +33,7 @@ use Rattle.c65_gendirect.specs.declared.relation.Relation.{Relation}
 use Rattle.c65_gendirect.specs.Compare.{relation_of}
 use Rattle.c65_genshift.specs.Shifts.{labelled}
 use Rattle.c65_genexpr.specs.declared.destination.Destination.{Destination}
-use Rattle.c65_genexpr.specs.declared.destination.Destination.TheVariants.{Registers}
+use Rattle.c65_genexpr.specs.declared.destination.Destination.TheVariants.{Registers, Pointer}
 use Rattle.c65_genexpr.specs.declared.operands.Operands.{Operands}
 use Rattle.c65_genexpr.specs.declared.operands.Operands.TheVariants.{Numbers, PointerFirst, PointerLast, Pointers}
 use Rattle.c65_genexpr.specs.declared.operating.Operating.{Operating}
@@ -41,7 +41,7 @@ use Rattle.c65_genexpr.specs.declared.operating.Operating.TheVariants as operati
 use Rattle.c65_genexpr.specs.declared.comparing.Side.{Side}
 use Rattle.c65_genexpr.specs.declared.comparing.Side.TheVariants.{Left, Right}
 use Rattle.c65_genexpr.specs.declared.comparing.Comparing.{Comparing}
-use Rattle.c65_genexpr.specs.declared.comparing.Comparing.TheVariants.{Truth, Byte, Whole, Stacked, Held}
+use Rattle.c65_genexpr.specs.declared.comparing.Comparing.TheVariants.{Truth, Byte, Whole, Stacked, Held, HeldByte}
 use Rattle.c65_genexpr.specs.declared.storing.Storing.{Storing}
 use Rattle.c65_genexpr.specs.declared.storing.Storing.TheVariants as storing
 use Rattle.c65_genexpr.specs.declared.wanted.Wanted.{Wanted}
@@ -54,7 +54,7 @@ use Rattle.c65_genexpr.specs.Places.{more, has_base, added_bytes, sum_has_base, 
 use Rattle.c65_genexpr.specs.Wanted.{wanted_by, handed, wanted, sense, aimed, inner, truth_by, way, way_labels, joined}
 use Rattle.c65_genexpr.specs.Operands.{residue_of, constant_in, operands_of, computes, same_truth, conversion_by}
 use Rattle.c65_genexpr.specs.Direct.{kept_at, own_bytes}
-use Rattle.c65_genexpr.specs.Comparing.{relation_by, tested_by, comparing_of, on, low_code, below_side, comparison_by}
+use Rattle.c65_genexpr.specs.Comparing.{relation_by, tested_by, comparing_of, takes_low, on, low_code, below_side, comparison_by}
 use Rattle.c65_genexpr.specs.Held.{held_low, held_high}
 use Rattle.c65_genexpr.specs.Operating.{operating_of, waiting_code, stacked_code, below_operand, operator_by}
 use Rattle.c65_genexpr.specs.Destination.{arrived, destination_of}
@@ -65,19 +65,27 @@ use Rattle.c65_genexpr.specs.Arguments as arguments
 use Rattle.c65_genexpr.specs.Calls.{named, library_at, count_code, fetch_code, result_code, named_by, pointer_code, direct_code, ptr4_code}
 use Rattle.c65_genexpr.specs.Uses.{uses, by_relation}
 use Rattle.c65_genfield.specs.Bits.{byte_field}
-use Rattle.c65_genexpr.specs.Code.{width_in, tested_load, load_by, behind_open, compound, call_by, expr_code, node_code, base_code, pointer_base_code, args_code}
+use Rattle.c65_genexpr.specs.Code.{width_in, tested_load, load_by, behind_open, compound, call_by, expr_code, node_code, base_code, pointer_base_code, low_value_code, index_code, sum_index_code, args_code}
+use Rattle.c65_genload.specs.declared.places.Extent.TheVariants.{One as one_byte}
+use Rattle.c65_gendirect.specs.Words.{first_byte_code}
+use Rattle.c65_genexpr.specs.declared.elements.Element.{Element}
+use Rattle.c65_genexpr.specs.Elements.{sum_element, element_of, element_at, element_or, loaded_element, element_byte_code}
+use Rattle.c65_genexpr.specs.Lows.{is_number, byte_in, low_operand, low_operand_or, behind_pointer, low_load_by}
+use Rattle.c65_gen_law_lines.proofs.Elements.{sum_indexes, onward_from, element_from, byte_idle, low_reads}
 use Rattle.c65_gen_law_lines.proofs.Drops.{Unstored}
-use Rattle.c65_gen_law_lines.proofs.Pointed.{arrived_still, fetch_still}
+use Rattle.c65_gen_law_lines.proofs.Pointed.{arrived_still, fetch_still, behind_pointer_still}
 use Rattle.c65_gen_law_lines.proofs.StepForms.{step_quiet}
 use Rattle.c65_gen_law_lines.proofs.StackPieces.{narrow_still, keep_still, byte_behind_still, word_behind_still, read_bytes_still, byte_through_still, word_through_still, object_still, further_still, offset_still, conversion_still, push_leaves, argument_leaves, hold_leaves, bytes_still, stored_leaves, copy_leaves, spill_still, unary_still, between_leaves, behind_leaves, wide_leaves, open_leaves, close_leaves}
 use Rattle.c65_gen_law_stack.proofs.EvenLines.{Labels, No, One, Even, even_label, even_leaves}
 use Rattle.c65_gen_law_stack.proofs.EvenShifts.{elements_even}
-use Rattle.c65_gen_law_stack.proofs.EvenDirects.{byte_even, compare_even, compare_byte_even, zero_test_even, truth_even}
+use Rattle.c65_gen_law_stack.proofs.EvenDirects.{byte_even, first_even, compare_even, compare_byte_even, zero_test_even, truth_even}
 use Rattle.c65_gen_law_stack.proofs.EvenForms.{loaded_test_even, value_test_even, routine_test_even, constant_even, form_even, end_even, keep_even}
+use Rattle.c65_gen_law_stack.proofs.EvenElements.{keep_byte_even, element_value_even, element_test_even, element_byte_even}
 use Rattle.c65_gen_law_stack.proofs.ReadSides.{Reaches, storing_reached, sum_reached, First, Compared, comparing_reached, Operated, operating_reached}
 use Rattle.c65_gen_law_calls.specs.Sites.{Site, site_by, unless_named, sites_of, node_sites, args_sites}
 use Rattle.c65_gen_law_calls.specs.Lines.{is_calling, named_line, line_by, line_of}
 use Rattle.c65_gen_law_calls.specs.Found.{ExpressionsCallInOrder}
+use Rattle.c65_gen_law_calls.proofs.SiteLaws.{calls_nothing}
 use Rattle.c65_gen_law_calls.proofs.Callings.{Free, free_leaves, free_append, free_none, free_if, Has, has_then, has_behind, has_before, has_line, has_none, has_free, has_as}
 
 -- ---- operands that are read where they lie
@@ -116,7 +124,7 @@ right_sites ss ts h = ap (λ (x : List Site). x ++ ts) (sym h)
 
 -- ---- what is wanted
 
-even_free : {P X : Labels} {a : List Line} → Even P X a → Free a
+pub even_free : {P X : Labels} {a : List Line} → Even P X a → Free a
 even_free e = free_leaves (even_leaves e [])
 
 wanted_has : {f : Framed} {ss : List Site} {a : List Line} (w : Wanted) (width : Width) → Has f ss a → Has f ss (wanted w width a)
@@ -205,12 +213,39 @@ comparison_has (Byte side low r d) op operands right s to m given da db = labell
 comparison_has (Whole side r is_signed sides) op operands right s to m given da db = has_behind (side_has side given da db) (even_free (compare_even {X = One to} r is_signed sides m to refl))
 comparison_has (Held r is_signed) op operands right s to m given da db =
     has_then da (has_before (even_free (keep_even {X = No})) (has_behind db (even_free (compare_even {X = One to} r is_signed (Word held_low held_high) m to refl))))
+comparison_has (HeldByte r) op operands right s to m given da db =
+    labelled_has m (has_then da (has_before (even_free (keep_byte_even {X = No})) (has_behind db (even_free (compare_byte_even {X = One to} r held_low to refl)))))
 comparison_has Stacked op operands right s to m given da db =
     labelled_has m (has_then da (has_before (free_leaves (between_leaves operands [])) (has_behind db (free_append (free_leaves (behind_leaves op operands right [])) (even_free (routine_test_even {X = One to} s to refl))))))
 
 relation_has : {f : Framed} {ss : List Site} (o : Option Relation) {other : List Line} {g : Relation → List Line} → Has f ss other → ((r : Relation) → Has f ss (g r)) → Has f ss (by_relation o other g)
 relation_has None p q = p
 relation_has (Some r) p q = q r
+
+-- ---- elements and low bytes
+
+element_load_has : {f : Framed} {ss : List Site} {index : List Line} (w : Wanted) (x : Element × IntType) → Has f ss index → Has f ss (loaded_element w x index)
+element_load_has Value x d = has_behind d (even_free (element_value_even {X = No} x.0 x.1))
+element_load_has (Test to s) x d = has_behind d (even_free (element_test_even {X = One to} x.0 x.1 s to refl))
+
+element_has : {f : Framed} {ss : List Site} {whole : List Line} (o : Option (Element × IntType)) (code : Element × IntType → List Line) → ((x : Element × IntType) → o ≡ Some x → Has f ss (code x)) → Has f ss whole → Has f ss (element_or o code whole)
+element_has None code found other = other
+element_has (Some x) code found other = found x refl
+
+byte_has : {f : Framed} {ss : List Site} {code : List Line} (o : Option OperandByte) → ((d : OperandByte) → o ≡ Some d → ss ≡ []) → Has f ss code → Has f ss (low_code o code)
+byte_has None quiet d = d
+byte_has (Some byte) quiet d = has_as (sym (quiet byte refl)) (has_free (even_free (byte_even {X = No} Lda byte refl)))
+
+byte_sites : (f : Framed) (pushed : ℕ) (e : Typed) (d : OperandByte) → byte_in f pushed e ≡ Some d → sites_of e ≡ []
+byte_sites f pushed e d h = calls_nothing f e (byte_idle f pushed e d h).calls
+
+low_operand_has : {f : Framed} {ss : List Site} {whole : List Line} (o : Option OperandByte) (code : OperandByte → List Line) → ((d : OperandByte) → o ≡ Some d → Has f ss (code d)) → Has f ss whole → Has f ss (low_operand_or o code whole)
+low_operand_has None code found other = other
+low_operand_has (Some d) code found other = found d refl
+
+low_load_has : {f : Framed} {ss : List Site} {base other : List Line} (o : Option ℕ) → Has f ss base → Has f ss other → Has f ss (low_load_by o base other)
+low_load_has None db d = d
+low_load_has (Some at) db d = has_behind db (free_leaves (behind_pointer_still at one_byte []))
 
 -- ---- calls
 
@@ -281,7 +316,8 @@ mutual
   node_has f pushed lo w t (member e m) = wanted_has w (width_in t) (has_behind (expr_has f pushed lo Value e) (free_leaves (offset_still (offset_at (types_of f.parts.types) (bare e) m) [])))
   node_has f pushed lo w t (load e) =
       let access : Access = access_of (types_of f.parts.types) e in
-      load_has w (place_of f pushed e) access (base_has f pushed lo (destination_of access) e)
+      element_has (element_at f e) (λ x. loaded_element w x (index_code f pushed lo e)) (λ x h. element_load_has w x (element_from f e x (λ y found. index_has f pushed lo e y found) h))
+      (load_has w (place_of f pushed e) access (base_has f pushed lo (destination_of access) e))
   node_has f pushed lo w t (address e) = wanted_has w (width_in t) (expr_has f pushed lo Value e)
   node_has f pushed lo w t (decay e) = wanted_has w (width_in t) (expr_has f pushed lo Value e)
   node_has f pushed lo w t (convert e) =
@@ -300,8 +336,11 @@ mutual
       let how : Comparing = comparing_of f pushed q (computes operands) a b in
       let to : ℕ = aimed w lo in
       let own : ℕ = inner w lo in
+      let next : ℕ = own + 1 + uses (tested_by q b) a in
+      let below : ℕ = below_side how pushed bytes in
       truth_has w lo (comparison_has how op operands (kind_in b) (sense w) to own (comparing_reached no_site f pushed q (computes operands) a b)
-      (expr_has f pushed (own + 1) (wanted_by (tested_by q b) to) a) (expr_has f (below_side how pushed bytes) (own + 1 + uses (tested_by q b) a) (wanted_by (tested_by q a) to) b)))
+      (either_has (takes_low how) (low_value_has f pushed (own + 1) a) (expr_has f pushed (own + 1) (wanted_by (tested_by q b) to) a))
+      (either_has (takes_low how) (low_value_has f below next b) (expr_has f below next (wanted_by (tested_by q a) to) b))))
   node_has f pushed lo w t (both a b) =
       let straight : Bool = not (sense w) in
       let own : ℕ = inner w lo in
@@ -356,6 +395,31 @@ mutual
   pointer_base_has f pushed lo d (node t (address e)) = base_has f pushed lo d e
   pointer_base_has f pushed lo d (node t (decay e)) = base_has f pushed lo d e
   pointer_base_has f pushed lo d (node t n) = arrived_has d (node_has f pushed lo Value t n)
+
+  low_value_has : (f : Framed) (pushed lo : ℕ) (e : Typed) → Has f (sites_of e) (low_value_code f pushed lo e)
+  low_value_has f pushed lo (node t (convert e)) =
+      byte_has (byte_in f pushed (node t (convert e))) (byte_sites f pushed (node t (convert e))) (either_has (is_number (type_in t) && is_number (bare e)) (low_value_has f pushed lo e) (node_has f pushed lo Value t (convert e)))
+  low_value_has f pushed lo (node t (binary op a b)) =
+      byte_has (byte_in f pushed (node t (binary op a b))) (byte_sites f pushed (node t (binary op a b)))
+      (low_operand_has (low_operand f pushed op a b) (λ d. Label lo ∷ (low_value_code f pushed (lo + 1) a ++ first_byte_code op d))
+      (λ d h. has_as (left_sites (sites_of a) (sites_of b) (calls_nothing f b (low_reads f pushed op a b d h).right.calls)) (has_line (Label lo) refl (has_behind (low_value_has f pushed (lo + 1) a) (even_free (first_even {X = No} op d)))))
+      (node_has f pushed lo Value t (binary op a b)))
+  low_value_has f pushed lo (node t (load e)) =
+      byte_has (byte_in f pushed (node t (load e))) (byte_sites f pushed (node t (load e)))
+      (element_has (element_at f e) (λ x. index_code f pushed lo e ++ element_byte_code x.0)
+      (λ x h. has_behind (element_from f e x (λ y found. index_has f pushed lo e y found) h) (even_free (element_byte_even {X = No} x.0)))
+      (low_load_has (behind_pointer (place_of f pushed e) (access_of (types_of f.parts.types) e)) (base_has f pushed lo Pointer e) (node_has f pushed lo Value t (load e))))
+  low_value_has f pushed lo (node t n) = byte_has (byte_in f pushed (node t n)) (byte_sites f pushed (node t n)) (node_has f pushed lo Value t n)
+
+  pub index_has : (f : Framed) (pushed lo : ℕ) (e : Typed) (x : Element) → element_of f e ≡ Some x → Has f (sites_of e) (index_code f pushed lo e)
+  index_has f pushed lo (node t (deref e)) x h = sum_index_has f pushed lo e x h
+  index_has f pushed lo (node t (member e m)) x h = onward_from (offset_at (types_of f.parts.types) (bare e) m) (element_of f e) x (λ y found. index_has f pushed lo e y found) h
+  index_has f pushed lo (node t _) x h = absurd cc
+
+  sum_index_has : (f : Framed) (pushed lo : ℕ) (e : Typed) (x : Element) → sum_element f e ≡ Some x → Has f (sites_of e) (sum_index_code f pushed lo e)
+  sum_index_has f pushed lo (node t (binary op a b)) x h =
+      has_as (right_sites (sites_of a) (sites_of b) (calls_nothing f a (sum_indexes f t op a b x h).array.calls)) (has_line (Label lo) refl (low_value_has f pushed (lo + 1) b))
+  sum_index_has f pushed lo (node t _) x h = absurd cc
 
   args_has : (f : Framed) (pushed lo : ℕ) (fast : Bool) (es : Nodes) → Has f (args_sites es) (args_code f pushed lo fast es)
   args_has f pushed lo fast none = has_none

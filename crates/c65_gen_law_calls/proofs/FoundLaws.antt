@@ -1,6 +1,6 @@
 -- The line of each call takes away what the call passes.
-use Rattle.std.proofs.Common.{◌≡◌, ℕ, zero, suc, ◌+◌, ◌==◌, ◌^◌, ◌≤◌, Bool, true, false, Option, None, Some, List, [], ◌∷◌, ◌++◌, length, slice_get, take, refl, sym, ap, subst, ◌∙◌, arith}
-use Rattle.std.specs.Prelude.{if◌then◌else◌}
+use Rattle.std.proofs.Common.{◌≡◌, ℕ, zero, suc, ◌+◌, ◌==◌, ◌^◌, ◌≤◌, Bool, true, false, not, Option, None, Some, List, [], ◌∷◌, ◌++◌, length, slice_get, take, refl, sym, ap, subst, ◌∙◌, arith}
+use Rattle.std.specs.Prelude.{◌&&◌, if◌then◌else◌}
 use Rattle.std.proofs.lemmas.Bool.{eqb-true}
 use Rattle.c65_csem.specs.Trees.{Stmt, UnitTy, FuncTy}
 use Rattle.c65_csem.specs.Units.{context_of, IsBody}
@@ -13,7 +13,7 @@ use Rattle.c65_genentry.specs.Drafts.{with_labels}
 use Rattle.c65_genentry.specs.Entry.{entry_code}
 use Rattle.c65_genentry.specs.Ends.{end_code}
 use Rattle.c65_genstmt.specs.Cases.{room_of}
-use Rattle.c65_genstmt.specs.Stmts.{with_label, ways, with_stmt}
+use Rattle.c65_genstmt.specs.Stmts.{with_label, ways, with_last, returns_last}
 use Rattle.c65_genstmt.specs.Functions.{main_code, no_lines, with_function}
 use Rattle.c65_gen_law_lines.specs.Stack.{Waiting, waiting_by, taken, left, called, by_line, waits, bytes_in, statement_calls}
 use Rattle.c65_gen_law_stack.specs.Going.{sum_in, waiting_at, at_first}
@@ -23,7 +23,7 @@ use Rattle.c65_gen_law_calls.specs.Sites.{Site, bytes_of, statement_sites}
 use Rattle.c65_gen_law_calls.specs.Lines.{is_calling, callings, line_of, lines_of}
 use Rattle.c65_gen_law_calls.specs.Found.{LinesAreOfCalls}
 use Rattle.c65_gen_law_calls.proofs.Callings.{calls_in, line_keeps, line_takes, nothing_waits, Free, free_none}
-use Rattle.c65_gen_law_calls.proofs.StmtSites.{Adds, adds_before, adds_behind, free_lines, label_adds, stmt_adds}
+use Rattle.c65_gen_law_calls.proofs.StmtSites.{Adds, adds_before, adds_behind, free_lines, label_adds, last_adds}
 use Rattle.c65_gen_law_calls.proofs.SiteLaws.{all_bytes, statement_calls_are, site_in, stmt_sites}
 
 -- ---- what is taken away
@@ -131,15 +131,16 @@ abbrev entered : Framed → Stmt → RegSet → Drafted
 entered f body out = with_lines (with_labels (room_of body) (with_labels 1 (no_lines out))) (entry_code f)
 
 abbrev run : Framed → Stmt → RegSet → Drafted
-run f body out = with_stmt f (ways 0 0 0) 0 body (entered f body out)
+run f body out = with_last f (ways 0 0 0) 0 body (entered f body out)
 
 abbrev ended : Framed → Bool → Stmt → RegSet → Drafted
-ended f is_main body out = with_label 0 (with_lines (run f body out) (main_code is_main))
+ended f is_main body out = with_label 0 (with_lines (run f body out) (main_code (is_main && not (returns_last body))))
 
 body_adds : (f : Framed) (is_main : Bool) (body : Stmt) (out : RegSet) → Adds f (statement_sites body) (entered f body out) (ended f is_main body out)
 body_adds f is_main body out =
-    let m : Drafted = with_lines (run f body out) (main_code is_main) in
-    adds_behind (stmt_adds f (ways 0 0 0) 0 body (entered f body out)) (adds_before (free_lines (run f body out) (main_code is_main) (main_free is_main)) (label_adds 0 m))
+    let first : Bool = is_main && not (returns_last body) in
+    let m : Drafted = with_lines (run f body out) (main_code first) in
+    adds_behind (last_adds f (ways 0 0 0) 0 body (entered f body out)) (adds_before (free_lines (run f body out) (main_code first) (main_free first)) (label_adds 0 m))
 
 -- lines between two others are the only ones there
 same_behind : (a b c : List Line) → a ++ b ≡ a ++ c → b ≡ c

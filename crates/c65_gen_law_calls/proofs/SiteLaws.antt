@@ -68,6 +68,14 @@ mutual
   args_calls_are f none = refl
   args_calls_are f (some e es) = two f (calls_of f e) (args_calls f es) (sites_of e) (args_sites es) (calls_are f e) (args_calls_are f es)
 
+none_in : (f : Framed) (ss : List Site) → all_bytes f ss ≡ [] → ss ≡ []
+none_in f [] e = refl
+none_in f (s ∷ ss) e = absurd cc
+
+-- what takes away nothing calls nothing
+pub calls_nothing : (f : Framed) (e : Typed) → calls_of f e ≡ [] → sites_of e ≡ []
+calls_nothing f e h = none_in f (sites_of e) (sym (calls_are f e) ∙ h)
+
 maybe_calls_are : (f : Framed) (e : MaybeTyped) → maybe_calls f e ≡ all_bytes f (maybe_sites e)
 maybe_calls_are f absent = refl
 maybe_calls_are f (present e) = calls_are f e

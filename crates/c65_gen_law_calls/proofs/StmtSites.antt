@@ -32,7 +32,7 @@ use Rattle.c65_genstmt.specs.declared.objects.Spot.TheVariants.{Bank, Soft, Data
 use Rattle.c65_geneffect.specs.Effects.{effect_code}
 use Rattle.c65_genstmt.specs.Jumps.{following, with_value, with_effect, with_test}
 use Rattle.c65_genstmt.specs.Objects.{spot_of, object_bytes, point_code, stored_code, with_copied, with_kept, with_zeros}
-use Rattle.c65_genstmt.specs.Stmts.{case_behind, with_label, with_jump, two_given, three_given, with_maybe, with_effects, with_guard, ways, default_way, with_stmt, with_stmts, with_cases}
+use Rattle.c65_genstmt.specs.Stmts.{case_behind, with_label, with_jump, two_given, three_given, with_maybe, with_effects, with_guard, ways, default_way, with_stmt, with_stmts, with_last, with_lasts, is_empty, with_way, with_cases}
 use Rattle.c65_gen_law_lines.proofs.StackPieces.{stored_leaves}
 use Rattle.c65_gen_law_calls.specs.Sites.{Site, sites_of, maybe_sites, statement_sites, statements_sites}
 use Rattle.c65_gen_law_calls.proofs.Callings.{Free, free_leaves, free_append, free_none, free_if, Has, has_then, has_free, has_as}
@@ -91,6 +91,11 @@ label_adds l d = free_lines d (Label l ∷ []) (record { none = refl })
 
 jump_adds : {f : Framed} (l : ℕ) (d : Drafted) → Adds f [] d (with_jump l d)
 jump_adds l d = free_lines d (jump Jmp l ∷ []) (record { none = refl })
+
+-- or none, where nothing stands between
+way_adds : {f : Framed} (at : Bool) (l : ℕ) (d : Drafted) → Adds f [] d (with_way at l d)
+way_adds true l d = adds_same d
+way_adds false l d = jump_adds l d
 
 test_adds : (f : Framed) (to : ℕ) (s : Bool) (e : Typed) (d : Drafted) → Adds f (sites_of e) d (with_test f to s e d)
 test_adds f to s e d = record { added = expr_code f 0 d.labels (Test to s) e; lines = refl; has = has_expression f 0 d.labels (Test to s) e }
@@ -214,7 +219,7 @@ given_adds : {f : Framed} {ss : List Site} {d e g : Drafted} → d.lines ≡ e.l
 given_adds same p = record { added = p.added; lines = p.lines ∙ ap (λ (l : List Line). l ++ p.added) (sym same); has = p.has }
 
 mutual
-  pub stmt_adds : (f : Framed) (w : Ways) (l : ℕ) (s : Stmt) (d : Drafted) → Adds f (statement_sites s) d (with_stmt f w l s d)
+  stmt_adds : (f : Framed) (w : Ways) (l : ℕ) (s : Stmt) (d : Drafted) → Adds f (statement_sites s) d (with_stmt f w l s d)
   stmt_adds f w l empty d = adds_same d
   stmt_adds f w l (eval e) d = effect_adds f e d
   stmt_adds f w l (set_part i o e) d = adds_behind (value_adds f e d) (kept_adds (is_tag (bare e)) f (spot_of f i o) e (with_value f e d))
@@ -223,11 +228,11 @@ mutual
   stmt_adds f w l (if_stmt e a b) d =
       let m1 : Drafted = with_test f d.labels false e (two_given d) in
       let m2 : Drafted = with_stmt f w l a m1 in
-      let m3 : Drafted = with_jump (d.labels + 1) m2 in
+      let m3 : Drafted = with_way (is_empty b) (d.labels + 1) m2 in
       let m4 : Drafted = with_label d.labels m3 in
       let m5 : Drafted = with_stmt f w (case_behind l a) b m4 in
       given_adds {e = two_given d} refl (adds_then (test_adds f d.labels false e (two_given d)) (adds_then (stmt_adds f w l a m1)
-      (adds_before (jump_adds (d.labels + 1) m2) (adds_before (label_adds d.labels m3) (adds_behind (stmt_adds f w (case_behind l a) b m4) (label_adds (d.labels + 1) m5))))))
+      (adds_before (way_adds (is_empty b) (d.labels + 1) m2) (adds_before (label_adds d.labels m3) (adds_behind (stmt_adds f w (case_behind l a) b m4) (label_adds (d.labels + 1) m5))))))
   stmt_adds f w l (while e a) d =
       let m1 : Drafted = with_label d.labels (two_given d) in
       let m2 : Drafted = with_test f (d.labels + 1) false e m1 in
@@ -278,3 +283,16 @@ mutual
   stmts_add : (f : Framed) (w : Ways) (l : ℕ) (ss : Stmts) (d : Drafted) → Adds f (statements_sites ss) d (with_stmts f w l ss d)
   stmts_add f w l no_stmts d = adds_same d
   stmts_add f w l (and_stmts a ss) d = adds_then (stmt_adds f w l a d) (stmts_add f w (case_behind l a) ss (with_stmt f w l a d))
+
+-- ---- what stands last
+
+mutual
+  pub last_adds : (f : Framed) (w : Ways) (l : ℕ) (s : Stmt) (d : Drafted) → Adds f (statement_sites s) d (with_last f w l s d)
+  last_adds f w l (block os ss) d = lasts_add f w l ss d
+  last_adds f w l (return e) d = maybe_adds f e d
+  last_adds f w l a d = stmt_adds f w l a d
+
+  lasts_add : (f : Framed) (w : Ways) (l : ℕ) (ss : Stmts) (d : Drafted) → Adds f (statements_sites ss) d (with_lasts f w l ss d)
+  lasts_add f w l no_stmts d = adds_same d
+  lasts_add f w l (and_stmts a no_stmts) d = adds_then (last_adds f w l a d) (adds_same (with_last f w l a d))
+  lasts_add f w l (and_stmts a (and_stmts b ss)) d = adds_then (stmt_adds f w l a d) (lasts_add f w (case_behind l a) (and_stmts b ss) (with_stmt f w l a d))

@@ -111,7 +111,7 @@ carry_quiet ops.Add = quiet_piece (record { plain = refl; fit = refl; size = ome
 carry_quiet ops.Sub = quiet_piece (record { plain = refl; fit = refl; size = omega arith }) (λ v. record { to = λ calls. refl })
 carry_quiet _ = quiet_none
 
-first_quiet : {ok : ℕ → Bool} (op : BinaryOp) (low : OperandByte) → Quiet ok nowhere 5 (first_byte_code op low)
+pub first_quiet : {ok : ℕ → Bool} (op : BinaryOp) (low : OperandByte) → Quiet ok nowhere 5 (first_byte_code op low)
 first_quiet op low = quiet_then (carry_quiet op) (byte_quiet (instruction op) low (reads_instruction op))
 
 both_quiet : {ok : ℕ → Bool} (op : BinaryOp) (low high : OperandByte) → Quiet ok nowhere 13 (both_bytes_code op low high)

@@ -44,7 +44,7 @@ use Rattle.c65_genexpr.specs.Storing as stores
 use Rattle.c65_genexpr.specs.Storing.{pointer_of, bytes_stored, through, unless_changed, by_value, by_pointer, storing_by, storing_of}
 use Rattle.c65_genexpr.specs.Operands.{residue_of, negative, constant_in}
 use Rattle.c65_genexpr.specs.Direct.{kept_at, address_at, address_of, takes_bytes, converted_if, sides_of, direct_of, is_fixed, is_pure, is_byte}
-use Rattle.c65_genexpr.specs.Comparing.{is_zero, zero_sense, tested_by, is_raised, raised, one_more, range_of, meeting, beside, changes, compared_by, held_by, or_held, comparing_of}
+use Rattle.c65_genexpr.specs.Comparing.{is_zero, zero_sense, tested_by, is_raised, raised, one_more, range_of, meeting, beside, changes, compared_by, held_by, or_held, comparing_of, takes_low}
 use Rattle.c65_genexpr.specs.Operating.{sum_by, mask_by, number_form, offset_form, constant_form, word_in, word_if, element_form, right_form, under_if, left_form, constant_right, direct_right, direct_left, by_left, by_right, reading_of, is_light, held_elements, held_form, held_if, operating_of}
 use Rattle.c65_genexpr.specs.Operating as operators
 use Rattle.c65_genexpr.specs.Held.{held_low, held_high}
@@ -133,6 +133,7 @@ Unread (comparing.Byte side.Right low r d) A B = IfRead low B × A
 Unread (comparing.Whole side.Left r is_signed sides) A B = B
 Unread (comparing.Whole side.Right r is_signed sides) A B = A
 Unread (comparing.Held r is_signed) A B = Unit {0}
+Unread (comparing.HeldByte r) A B = Unit {0}
 Unread comparing.Stacked A B = Unit {0}
 
 first_read : {A : Type 0} (x : Option Direct) → ((d : Direct) → x ≡ Some d → A) → IfRead (option_and_then (λ d. byte_of d 0) x) A
@@ -169,34 +170,48 @@ compared_unread : {A B : Type 0} (r : Relation) (bytes : Bool) (kind : IntType) 
 compared_unread {A = A} {B = B} r bytes kind pure x y left right = unread_if A B (changes kind pure x y) _ _ (beside_right (mirrored r) bytes kind y x right left) (beside_left r bytes kind x y left right)
 
 -- no side is left out where the left one waits in ptr2
-held_by_unread : (A B : Type 0) (is : Bool) (w : Width) (r : Relation) (kind : IntType) → Unread (held_by is w r kind) A B
-held_by_unread A B true Ax r kind = tt
-held_by_unread A B true Eax r kind = tt
-held_by_unread A B false w r kind = tt
+held_by_unread : (A B : Type 0) (is bytes : Bool) (w : Width) (r : Relation) (kind : IntType) → Unread (held_by is bytes w r kind) A B
+held_by_unread A B true true Ax r kind = tt
+held_by_unread A B true false Ax r kind = tt
+held_by_unread A B true bytes Eax r kind = tt
+held_by_unread A B false bytes w r kind = tt
 
 or_held_unread : (A B : Type 0) (how held : Comparing) → Unread how A B → Unread held A B → Unread (or_held how held) A B
 or_held_unread A B (comparing.Truth side) held p q = p
 or_held_unread A B (comparing.Byte side low r d) held p q = p
 or_held_unread A B (comparing.Whole side r is_signed sides) held p q = p
 or_held_unread A B (comparing.Held r is_signed) held p q = p
+or_held_unread A B (comparing.HeldByte r) held p q = p
 or_held_unread A B comparing.Stacked held p q = q
 
 -- the labels of a side that is not taken are none
 pub comparing_uses : (f : Framed) (pushed : ℕ) (q : Relation) (kind : IntType) (a b : Typed) → Unread (comparing_of f pushed q kind a b) (uses (tested_by q b) a ≡ 0) (uses (tested_by q a) b ≡ 0)
 comparing_uses f pushed q kind a b = go (tested_by q b) refl (tested_by q a) refl
   where
-    go : (x : Option Bool) → tested_by q b ≡ x → (y : Option Bool) → tested_by q a ≡ y → Unread (if is_some x then comparing.Truth side.Left else (if is_some y then comparing.Truth side.Right else or_held (compared_by q (is_byte a && is_byte b) kind (is_pure b) (direct_of f pushed a) (direct_of f pushed b)) (held_by (is_light f pushed b) (width_of kind) q kind))) (uses x a ≡ 0) (uses y b ≡ 0)
+    go : (x : Option Bool) → tested_by q b ≡ x → (y : Option Bool) → tested_by q a ≡ y → Unread (if is_some x then comparing.Truth side.Left else (if is_some y then comparing.Truth side.Right else or_held (compared_by q (is_byte a && is_byte b) kind (is_pure b) (direct_of f pushed a) (direct_of f pushed b)) (held_by (is_light f pushed b) (is_byte a && is_byte b) (width_of kind) q kind))) (uses x a ≡ 0) (uses y b ≡ 0)
     go (Some s) e y h = zero_uses y b (tested_zero q b s e)
     go None e (Some s) h = zero_uses None a (tested_zero q a s h)
-    go None e None h = or_held_unread _ _ (compared_by q (is_byte a && is_byte b) kind (is_pure b) (direct_of f pushed a) (direct_of f pushed b)) _ (compared_unread q (is_byte a && is_byte b) kind (is_pure b) (direct_of f pushed a) (direct_of f pushed b) (λ d found. (direct_idle f pushed a d found).uses) (λ d found. (direct_idle f pushed b d found).uses)) (held_by_unread _ _ (is_light f pushed b) (width_of kind) q kind)
+    go None e None h = or_held_unread _ _ (compared_by q (is_byte a && is_byte b) kind (is_pure b) (direct_of f pushed a) (direct_of f pushed b)) _ (compared_unread q (is_byte a && is_byte b) kind (is_pure b) (direct_of f pushed a) (direct_of f pushed b) (λ d found. (direct_idle f pushed a d found).uses) (λ d found. (direct_idle f pushed b d found).uses)) (held_by_unread _ _ (is_light f pushed b) (is_byte a && is_byte b) (width_of kind) q kind)
 
 pub comparing_calls : (f : Framed) (pushed : ℕ) (q : Relation) (kind : IntType) (a b : Typed) → Unread (comparing_of f pushed q kind a b) (calls_of f a ≡ []) (calls_of f b ≡ [])
 comparing_calls f pushed q kind a b = go (tested_by q b) refl (tested_by q a) refl
   where
-    go : (x : Option Bool) → tested_by q b ≡ x → (y : Option Bool) → tested_by q a ≡ y → Unread (if is_some x then comparing.Truth side.Left else (if is_some y then comparing.Truth side.Right else or_held (compared_by q (is_byte a && is_byte b) kind (is_pure b) (direct_of f pushed a) (direct_of f pushed b)) (held_by (is_light f pushed b) (width_of kind) q kind))) (calls_of f a ≡ []) (calls_of f b ≡ [])
+    go : (x : Option Bool) → tested_by q b ≡ x → (y : Option Bool) → tested_by q a ≡ y → Unread (if is_some x then comparing.Truth side.Left else (if is_some y then comparing.Truth side.Right else or_held (compared_by q (is_byte a && is_byte b) kind (is_pure b) (direct_of f pushed a) (direct_of f pushed b)) (held_by (is_light f pushed b) (is_byte a && is_byte b) (width_of kind) q kind))) (calls_of f a ≡ []) (calls_of f b ≡ [])
     go (Some s) e y h = zero_calls f b (tested_zero q b s e)
     go None e (Some s) h = zero_calls f a (tested_zero q a s h)
-    go None e None h = or_held_unread _ _ (compared_by q (is_byte a && is_byte b) kind (is_pure b) (direct_of f pushed a) (direct_of f pushed b)) _ (compared_unread q (is_byte a && is_byte b) kind (is_pure b) (direct_of f pushed a) (direct_of f pushed b) (λ d found. (direct_idle f pushed a d found).calls) (λ d found. (direct_idle f pushed b d found).calls)) (held_by_unread _ _ (is_light f pushed b) (width_of kind) q kind)
+    go None e None h = or_held_unread _ _ (compared_by q (is_byte a && is_byte b) kind (is_pure b) (direct_of f pushed a) (direct_of f pushed b)) _ (compared_unread q (is_byte a && is_byte b) kind (is_pure b) (direct_of f pushed a) (direct_of f pushed b) (λ d found. (direct_idle f pushed a d found).calls) (λ d found. (direct_idle f pushed b d found).calls)) (held_by_unread _ _ (is_light f pushed b) (is_byte a && is_byte b) (width_of kind) q kind)
+
+-- where the low bytes alone are compared, no side is tested
+untested : (x y : Option Bool) (how : Comparing) → takes_low (if is_some x then comparing.Truth side.Left else (if is_some y then comparing.Truth side.Right else how)) ≡ true → (x ≡ None) × (y ≡ None)
+untested (Some s) y how h = absurd cc
+untested None (Some s) how h = absurd cc
+untested None None how h = (refl, refl)
+
+pub low_left : (f : Framed) (pushed : ℕ) (q : Relation) (kind : IntType) (a b : Typed) → takes_low (comparing_of f pushed q kind a b) ≡ true → tested_by q b ≡ None
+low_left f pushed q kind a b h = (untested (tested_by q b) (tested_by q a) _ h).0
+
+pub low_right : (f : Framed) (pushed : ℕ) (q : Relation) (kind : IntType) (a b : Typed) → takes_low (comparing_of f pushed q kind a b) ≡ true → tested_by q a ≡ None
+low_right f pushed q kind a b h = (untested (tested_by q b) (tested_by q a) _ h).1
 
 -- ---- assignments
 
@@ -409,7 +424,7 @@ left_small ops.Sub (Pointers size) low high = tt
 left_small _ (Pointers size) low high = tt
 
 -- a form that an option has is small, and then something is so
-abbrev Taken : Option Form → Type 0 → Type 0
+abbrev pub Taken : Option Form → Type 0 → Type 0
 Taken None A = Unit {0}
 Taken (Some form) A = IsSmall form × A
 
@@ -417,7 +432,7 @@ taken_by : {A : Type 0} (x : Option Form) → AllSmall x → A → Taken x A
 taken_by None small a = tt
 taken_by (Some form) small a = (small, a)
 
-constant_taken : {A : Type 0} (op : BinaryOp) (operands : Operands) (z : Option ℤ) → ((y : ℤ) → z ≡ Some y → A) → Taken (option_and_then (λ y. constant_form op operands (residue_of y)) z) A
+pub constant_taken : {A : Type 0} (op : BinaryOp) (operands : Operands) (z : Option ℤ) → ((y : ℤ) → z ≡ Some y → A) → Taken (option_and_then (λ y. constant_form op operands (residue_of y)) z) A
 constant_taken op operands None found = tt
 constant_taken op operands (Some z) found = taken_by (constant_form op operands (residue_of z)) (constant_small op operands (residue_of z)) (found z refl)
 

@@ -1,5 +1,5 @@
 -- What is so of the forms for effects: sides that take no lines are idle, and instructions count where they reach.
-use Rattle.std.proofs.Common.{◌≡◌, ℕ, ℤ, ◌==◌, Bool, true, false, Option, Some, None, refl}
+use Rattle.std.proofs.Common.{◌≡◌, ℕ, ℤ, ◌==◌, ◌≤◌, Bool, true, false, Option, Some, None, List, refl, arith}
 use Rattle.std.specs.Prelude.{◌&&◌, if◌then◌else◌, option_map, option_and_then}
 use Rattle.c65_base.specs.declared.operators.BinaryOp.{BinaryOp}
 use Rattle.c65_base.specs.declared.operators.StepKind.{StepKind}
@@ -11,14 +11,16 @@ use Rattle.c65_genload.specs.declared.places.Place.TheVariants as places
 use Rattle.c65_genload.specs.declared.places.Access.{Access}
 use Rattle.c65_genload.specs.Numbers.{first, second}
 use Rattle.c65_genexpr.specs.Operands.{constant_in}
-use Rattle.c65_genexpr.specs.Operating.{takes_bytes}
+use Rattle.c65_genexpr.specs.declared.operands.Operands.{Operands}
+use Rattle.c65_genexpr.specs.declared.operating.Form.{Form}
+use Rattle.c65_genexpr.specs.Operating.{takes_bytes, constant_right}
 use Rattle.c65_genexpr.specs.Direct.{is_pure}
 use Rattle.c65_genchange.specs.declared.spots.Target.{Target}
 use Rattle.c65_genchange.specs.declared.spots.Target.TheVariants.{Byte, Word}
 use Rattle.c65_genchange.specs.declared.changes.Change.{Change}
 use Rattle.c65_genchange.specs.declared.changes.Change.TheVariants.{Up, Down, Number, Operand}
 use Rattle.c65_geneffect.specs.declared.changing.Changing.{Changing}
-use Rattle.c65_geneffect.specs.declared.changing.Changing.TheVariants.{Fixed, Loaded, Otherwise}
+use Rattle.c65_geneffect.specs.declared.changing.Changing.TheVariants.{Fixed, Loaded, Computed, Otherwise}
 use Rattle.c65_geneffect.specs.declared.changing.Fill.{Fill}
 use Rattle.c65_genchange.specs.Spots.{all_counted, target_of}
 use Rattle.c65_genchange.specs.Stepping.{step_op}
@@ -29,9 +31,11 @@ use Rattle.c65_genload.specs.declared.places.Access.TheVariants.{Whole, Part}
 use Rattle.c65_genload.specs.Fields.{is_in_byte}
 use Rattle.c65_genexpr.specs.Operating.{is_light}
 use Rattle.c65_geneffect.specs.Setting.{setting_at, setting_by, setting_of}
-use Rattle.c65_geneffect.specs.Changing.{counting, step_by, stepping_of, loaded_by, fixed_or, changing_at, changing_of, number_in, fill_by, filling_at, filling_of}
-use Rattle.c65_gen_law_lines.proofs.Drops.{Idle}
+use Rattle.c65_geneffect.specs.Changing.{counting, step_by, stepping_of, loaded_by, fixed_or, computed_or, computed_by, changing_in, changing_of, number_in, fill_by, filling_at, filling_of}
+use Rattle.c65_gen_law_lines.proofs.Drops.{Idle, IsSmall, Taken, constant_taken}
 use Rattle.c65_gen_law_lines.proofs.EffectForms.{IsSound}
+use Rattle.c65_gen_law_lines.proofs.Pieces.{by_access}
+use Rattle.c65_gen_law_lines.proofs.StackPieces.{holding}
 
 -- ---- `++` and `--`
 
@@ -69,36 +73,57 @@ stepping_sound how size place access = stepped how size (target_of place access)
 
 -- ---- assignments with an operator
 
+-- a place whose address does not wait, and which is no part of a unit
+pub record Settled (place : Place) (access : Access) : Type 0 where
+  pub waits : (v : List ℕ) → holding place v ≡ v
+  pub load : by_access 19 36 access ≤ 19
+  pub store : by_access 19 86 access ≤ 19
+
 -- what is so of a right side whose lines are not taken, and of the form
-abbrev pub Unneeded : Changing → Type 0 → Type 0
-Unneeded (Fixed change) B = IsSound change × B
-Unneeded (Loaded change) B = IsSound change
-Unneeded Otherwise B = Unit {0}
+abbrev pub Unneeded : Changing → Place → Access → Type 0 → Type 0
+Unneeded (Fixed change) place access B = IsSound change × B
+Unneeded (Loaded change) place access B = IsSound change
+Unneeded (Computed form) place access B = Settled place access × (IsSmall form × B)
+Unneeded Otherwise place access B = Unit {0}
 
-loaded_if : (B : Type 0) (c : Bool) (op : BinaryOp) (target : Target) → Unneeded (if c then Loaded (Operand op target) else Otherwise) B
-loaded_if B true op target = tt
-loaded_if B false op target = tt
+loaded_if : (B : Type 0) (place : Place) (access : Access) (c : Bool) (op : BinaryOp) (target : Target) → Unneeded (if c then Loaded (Operand op target) else Otherwise) place access B
+loaded_if B place access true op target = tt
+loaded_if B place access false op target = tt
 
-loaded_unneeded : (B : Type 0) (pure : Bool) (op : BinaryOp) (size : ℕ) (place : Place) (target : Target) → Unneeded (loaded_by pure op size place target) B
-loaded_unneeded B pure op size (places.Far at) target = tt
-loaded_unneeded B pure op size (places.Bank b) target = loaded_if B (pure && (size == 1)) op target
-loaded_unneeded B pure op size (places.Near at) target = loaded_if B (pure && (size == 1)) op target
-loaded_unneeded B pure op size (places.Data s at) target = loaded_if B (pure && (size == 1)) op target
+loaded_unneeded : (B : Type 0) (access : Access) (pure : Bool) (op : BinaryOp) (size : ℕ) (place : Place) (target : Target) → Unneeded (loaded_by pure op size place target) place access B
+loaded_unneeded B access pure op size (places.Far at) target = tt
+loaded_unneeded B access pure op size (places.Bank b) target = loaded_if B (places.Bank b) access (pure && (size == 1)) op target
+loaded_unneeded B access pure op size (places.Near at) target = loaded_if B (places.Near at) access (pure && (size == 1)) op target
+loaded_unneeded B access pure op size (places.Data s at) target = loaded_if B (places.Data s at) access (pure && (size == 1)) op target
 
-fixed_unneeded : (B : Type 0) (op : BinaryOp) (size : ℕ) (target : Target) (z : Option ℤ) (other : Changing) → ((y : ℤ) → z ≡ Some y → B) → Unneeded other B → Unneeded (fixed_or op size target z other) B
-fixed_unneeded B op size target None other b p = p
-fixed_unneeded B op size target (Some z) other b p = (tt, b z refl)
+fixed_unneeded : (B : Type 0) (place : Place) (access : Access) (op : BinaryOp) (size : ℕ) (target : Target) (z : Option ℤ) (other : Changing) → ((y : ℤ) → z ≡ Some y → B) → Unneeded other place access B → Unneeded (fixed_or op size target z other) place access B
+fixed_unneeded B place access op size target None other b p = p
+fixed_unneeded B place access op size target (Some z) other b p = (tt, b z refl)
 
-at_unneeded : (B : Type 0) (op : BinaryOp) (size : ℕ) (place : Place) (e : Typed) (t : Option Target) → ((z : ℤ) → constant_in e ≡ Some z → B) → Unneeded (changing_at op size place e t) B
-at_unneeded B op size place e None b = tt
-at_unneeded B op size place e (Some target) b = fixed_unneeded B op size target (constant_in e) (loaded_by (is_pure e) op size place target) b (loaded_unneeded B (is_pure e) op size place target)
+computed_if : (B : Type 0) (place : Place) (access : Access) (o : Option Form) → Settled place access → Taken o B → Unneeded (computed_or o) place access B
+computed_if B place access None settled p = tt
+computed_if B place access (Some form) settled p = (settled, p)
 
-unneeded_if : (B : Type 0) (c : Bool) (how : Changing) → Unneeded how B → Unneeded (if c then how else Otherwise) B
-unneeded_if B true how p = p
-unneeded_if B false how p = tt
+computed_unneeded : (B : Type 0) (op : BinaryOp) (operands : Operands) (place : Place) (access : Access) (e : Typed) → ((z : ℤ) → constant_in e ≡ Some z → B) → Unneeded (computed_by op operands place access e) place access B
+computed_unneeded B op operands (places.Far at) access e b = tt
+computed_unneeded B op operands (places.Bank x) (Part field) e b = tt
+computed_unneeded B op operands (places.Near at) (Part field) e b = tt
+computed_unneeded B op operands (places.Data s at) (Part field) e b = tt
+computed_unneeded B op operands (places.Bank x) (Whole kind) e b = computed_if B (places.Bank x) (Whole kind) (constant_right op operands e) (record { waits = λ v. refl; load = omega arith; store = omega arith }) (constant_taken op operands (constant_in e) b)
+computed_unneeded B op operands (places.Near at) (Whole kind) e b = computed_if B (places.Near at) (Whole kind) (constant_right op operands e) (record { waits = λ v. refl; load = omega arith; store = omega arith }) (constant_taken op operands (constant_in e) b)
+computed_unneeded B op operands (places.Data s at) (Whole kind) e b = computed_if B (places.Data s at) (Whole kind) (constant_right op operands e) (record { waits = λ v. refl; load = omega arith; store = omega arith }) (constant_taken op operands (constant_in e) b)
 
-pub changing_unneeded : (B : Type 0) (op : BinaryOp) (size : ℕ) (place : Place) (access : Access) (e : Typed) → ((z : ℤ) → constant_in e ≡ Some z → B) → Unneeded (changing_of op size place access e) B
-changing_unneeded B op size place access e b = unneeded_if B (takes_bytes op) (changing_at op size place e (target_of place access)) (at_unneeded B op size place e (target_of place access) b)
+in_unneeded : (B : Type 0) (op : BinaryOp) (operands : Operands) (size : ℕ) (place : Place) (access : Access) (e : Typed) (t : Option Target) → ((z : ℤ) → constant_in e ≡ Some z → B) → Unneeded (changing_in op operands size place access e t) place access B
+in_unneeded B op operands size place access e None b = computed_unneeded B op operands place access e b
+in_unneeded B op operands size place access e (Some target) b = fixed_unneeded B place access op size target (constant_in e) (loaded_by (is_pure e) op size place target) b (loaded_unneeded B access (is_pure e) op size place target)
+
+unneeded_if : (B : Type 0) (place : Place) (access : Access) (c : Bool) (how other : Changing) → Unneeded how place access B → Unneeded other place access B → Unneeded (if c then how else other) place access B
+unneeded_if B place access true how other p q = p
+unneeded_if B place access false how other p q = q
+
+pub changing_unneeded : (B : Type 0) (op : BinaryOp) (operands : Operands) (size : ℕ) (place : Place) (access : Access) (e : Typed) → ((z : ℤ) → constant_in e ≡ Some z → B) → Unneeded (changing_of op operands size place access e) place access B
+changing_unneeded B op operands size place access e b =
+    unneeded_if B place access (takes_bytes op) (changing_in op operands size place access e (target_of place access)) (computed_by op operands place access e) (in_unneeded B op operands size place access e (target_of place access) b) (computed_unneeded B op operands place access e b)
 
 -- ---- `=`
 
@@ -171,6 +196,7 @@ OfStep P (Some change) = P (target_in change)
 abbrev pub OfChanging : (Target → Type 0) → Changing → Type 0
 OfChanging P (Fixed change) = P (target_in change)
 OfChanging P (Loaded change) = P (target_in change)
+OfChanging P (Computed form) = Unit {0}
 OfChanging P Otherwise = Unit {0}
 
 abbrev pub OfFill : (Target → Type 0) → Option Fill → Type 0
@@ -208,16 +234,30 @@ fixed_target : (P : Target → Type 0) (op : BinaryOp) (size : ℕ) (target : Ta
 fixed_target P op size target None other p q = q
 fixed_target P op size target (Some z) other p q = p
 
-changed_target : (P : Target → Type 0) (op : BinaryOp) (size : ℕ) (place : Place) (e : Typed) (t : Option Target) → OfAny P t → OfChanging P (changing_at op size place e t)
-changed_target P op size place e None p = tt
-changed_target P op size place e (Some target) p = fixed_target P op size target (constant_in e) (loaded_by (is_pure e) op size place target) p (loading_target P (is_pure e) op size place target p)
+computed_target : (P : Target → Type 0) (o : Option Form) → OfChanging P (computed_or o)
+computed_target P None = tt
+computed_target P (Some form) = tt
 
-changing_if : (P : Target → Type 0) (b : Bool) (how : Changing) → OfChanging P how → OfChanging P (if b then how else Otherwise)
-changing_if P true how p = p
-changing_if P false how p = tt
+computing_target : (P : Target → Type 0) (op : BinaryOp) (operands : Operands) (place : Place) (access : Access) (e : Typed) → OfChanging P (computed_by op operands place access e)
+computing_target P op operands (places.Far at) access e = tt
+computing_target P op operands (places.Bank b) (Part field) e = tt
+computing_target P op operands (places.Near at) (Part field) e = tt
+computing_target P op operands (places.Data s at) (Part field) e = tt
+computing_target P op operands (places.Bank b) (Whole kind) e = computed_target P (constant_right op operands e)
+computing_target P op operands (places.Near at) (Whole kind) e = computed_target P (constant_right op operands e)
+computing_target P op operands (places.Data s at) (Whole kind) e = computed_target P (constant_right op operands e)
 
-pub changing_target : (P : Target → Type 0) (op : BinaryOp) (size : ℕ) (place : Place) (access : Access) (e : Typed) → OfAny P (target_of place access) → OfChanging P (changing_of op size place access e)
-changing_target P op size place access e p = changing_if P (takes_bytes op) (changing_at op size place e (target_of place access)) (changed_target P op size place e (target_of place access) p)
+changed_target : (P : Target → Type 0) (op : BinaryOp) (operands : Operands) (size : ℕ) (place : Place) (access : Access) (e : Typed) (t : Option Target) → OfAny P t → OfChanging P (changing_in op operands size place access e t)
+changed_target P op operands size place access e None p = computing_target P op operands place access e
+changed_target P op operands size place access e (Some target) p = fixed_target P op size target (constant_in e) (loaded_by (is_pure e) op size place target) p (loading_target P (is_pure e) op size place target p)
+
+changing_if : (P : Target → Type 0) (b : Bool) (how other : Changing) → OfChanging P how → OfChanging P other → OfChanging P (if b then how else other)
+changing_if P true how other p q = p
+changing_if P false how other p q = q
+
+pub changing_target : (P : Target → Type 0) (op : BinaryOp) (operands : Operands) (size : ℕ) (place : Place) (access : Access) (e : Typed) → OfAny P (target_of place access) → OfChanging P (changing_of op operands size place access e)
+changing_target P op operands size place access e p =
+    changing_if P (takes_bytes op) (changing_in op operands size place access e (target_of place access)) (computed_by op operands place access e) (changed_target P op operands size place access e (target_of place access) p) (computing_target P op operands place access e)
 
 fill_if : (P : Target → Type 0) (b : Bool) (fill : Fill) → P (Word fill.low fill.high) → OfFill P (if b then Some fill else None)
 fill_if P true fill p = p

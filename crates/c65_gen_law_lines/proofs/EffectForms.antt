@@ -4,7 +4,7 @@ use Rattle.std.proofs.lemmas.Bool.{and_from, and_parts}
 use Rattle.c65_base.specs.declared.operators.BinaryOp.{BinaryOp}
 use Rattle.c65_base.specs.declared.operators.BinaryOp.TheVariants as ops
 use Rattle.c65_mach.specs.declared.rows.Op.{Op}
-use Rattle.c65_mach.specs.declared.rows.Op.TheVariants.{Bcc, Bcs, Bne, Dec, Inc, Lda, Sbc, Sec, Sta, Txa}
+use Rattle.c65_mach.specs.declared.rows.Op.TheVariants.{Adc, Bcc, Bcs, Bne, Dec, Inc, Iny, Lda, Sbc, Sec, Sta, Txa}
 use Rattle.c65_code.specs.declared.line.Sym.{Sym}
 use Rattle.c65_genwide.specs.Lines.{value}
 use Rattle.c65_genload.specs.declared.places.Place.{Place}
@@ -18,8 +18,8 @@ use Rattle.c65_genchange.specs.declared.spots.Target.{Target}
 use Rattle.c65_genchange.specs.declared.spots.Target.TheVariants.{Byte, Word}
 use Rattle.c65_genchange.specs.declared.changes.Change.{Change}
 use Rattle.c65_genchange.specs.declared.changes.Change.TheVariants.{Up, Down, Number, Operand}
-use Rattle.c65_genchange.specs.Spots.{point_code, reach_code, again_code, is_counted, all_counted}
-use Rattle.c65_genchange.specs.Changes.{up_code, down_code, byte_code, first_code, next_code, is_neutral, skip_code, low_code, high_code, number_code, aside_code, taken_code, less_code, joined_code, more_code, operand_code, change_code, fill_code}
+use Rattle.c65_genchange.specs.Spots.{point_code, reach_code, again_code, is_next, beside_code, is_counted, all_counted}
+use Rattle.c65_genchange.specs.Changes.{up_code, down_code, byte_code, first_code, next_code, is_neutral, skip_code, low_code, high_code, is_one, carried_code, number_code, aside_code, taken_code, less_code, joined_code, more_code, operand_code, change_code, fill_code}
 use Rattle.c65_gen_law_lines.proofs.Made.{is_early, Piece, nowhere, once_at}
 use Rattle.c65_gen_law_lines.proofs.Leaves.{Still}
 use Rattle.c65_gen_law_lines.proofs.Quiet.{Quiet, quiet_then, quiet_piece, quiet_label, quiet_branch, quiet_none, quiet_wider, quiet_as, quiet_if}
@@ -38,6 +38,9 @@ reaches_lda = record { zero = refl; indirect = refl; absolute = λ sym at. refl 
 
 pub reaches_sta : Reaches Sta
 reaches_sta = record { zero = refl; indirect = refl; absolute = λ sym at. refl }
+
+pub reaches_adc : Reaches Adc
+reaches_adc = record { zero = refl; indirect = refl; absolute = λ sym at. refl }
 
 reaches_instruction : (op : BinaryOp) → Reaches (instruction op)
 reaches_instruction ops.Add = record { zero = refl; indirect = refl; absolute = λ sym at. refl }
@@ -68,6 +71,11 @@ again_still op (Zero at) v = record { to = λ calls. refl }
 
 pub reach_quiet : {ok : ℕ → Bool} (op : Op) (spot : Spot) → Reaches op → Quiet ok nowhere 4 (reach_code op spot)
 reach_quiet op spot r = quiet_piece (reach_piece op spot r) (reach_still op spot)
+
+pub beside_quiet : {ok : ℕ → Bool} (op : Op) (low high : Spot) → Reaches op → Quiet ok nowhere 4 (beside_code op low high)
+beside_quiet {ok = ok} op low high r =
+    let iny : Quiet ok nowhere 1 (implied Iny ∷ []) = quiet_piece (record { plain = refl; fit = refl; size = omega arith }) (λ v. record { to = λ calls. refl }) in
+    quiet_if (is_next low high) (quiet_as (λ l. refl) (quiet_then iny (quiet_piece (again_piece op high r) (again_still op high)))) (reach_quiet op high r)
 
 load_quiet : {ok : ℕ → Bool} (spot : Spot) → Quiet ok nowhere 4 (reach_code Lda spot)
 load_quiet spot = reach_quiet Lda spot reaches_lda
@@ -129,9 +137,15 @@ low_quiet op n spot = quiet_if (is_neutral op n) quiet_none (first_quiet op n sp
 high_quiet : {ok : ℕ → Bool} (op : BinaryOp) (n : ℕ) (spot : Spot) (label : ℕ) → ok label ≡ true → Quiet ok nowhere 14 (high_code op n spot label)
 high_quiet op n spot label passes = quiet_if (is_neutral op n) quiet_none (quiet_as (λ l. refl) (quiet_then (skip_quiet op n label passes) (next_quiet op n spot)))
 
+-- where the low byte carries
+carried_quiet : {ok : ℕ → Bool} (op : BinaryOp) (low high : Spot) (label : ℕ) → ok label ≡ true → Quiet ok nowhere 12 (carried_code op low high label)
+carried_quiet op low high label passes = quiet_as (λ l. refl) (quiet_then (skip_quiet op 0 label passes) (quiet_then (beside_quiet Adc low high reaches_adc) (store_quiet high)))
+
 number_quiet : {ok : ℕ → Bool} (op : BinaryOp) (n : ℕ) (target : Target) (label : ℕ) → ok label ≡ true → Quiet ok (once_at label) 24 (number_code op n target label)
 number_quiet op n (Byte low) label passes = quiet_wider (quiet_as (λ l. omega arith) (quiet_then (low_quiet op (first n) low) (quiet_label label))) (omega arith)
-number_quiet op n (Word low high) label passes = quiet_as (λ l. omega arith) (quiet_then (low_quiet op (first n) low) (quiet_then (high_quiet op (second n) high label passes) (quiet_label label)))
+number_quiet op n (Word low high) label passes =
+    quiet_if (is_one op n) (quiet_wider (quiet_as (λ l. omega arith) (quiet_then (first_quiet op 1 low) (quiet_then (carried_quiet op low high label passes) (quiet_label label)))) (omega arith))
+    (quiet_as (λ l. omega arith) (quiet_then (low_quiet op (first n) low) (quiet_then (high_quiet op (second n) high label passes) (quiet_label label))))
 
 -- ---- by the value in AX
 
@@ -184,24 +198,7 @@ point_quiet (places.Bank b) = quiet_none
 point_quiet (places.Near at) = quiet_none
 point_quiet (places.Data s at) = quiet_none
 
-pub fill_piece : (n : ℕ) (low high : Spot) → Piece 10 (fill_code n low high)
-fill_piece n (Behind p a) (Behind q b) = record { plain = refl; fit = refl; size = omega arith }
-fill_piece n (Behind p a) (Data t b) = record { plain = refl; fit = refl; size = omega arith }
-fill_piece n (Behind p a) (Zero b) = record { plain = refl; fit = refl; size = omega arith }
-fill_piece n (Data s a) (Behind q b) = record { plain = refl; fit = refl; size = omega arith }
-fill_piece n (Data s a) (Data t b) = record { plain = refl; fit = refl; size = omega arith }
-fill_piece n (Data s a) (Zero b) = record { plain = refl; fit = refl; size = omega arith }
-fill_piece n (Zero a) (Behind q b) = record { plain = refl; fit = refl; size = omega arith }
-fill_piece n (Zero a) (Data t b) = record { plain = refl; fit = refl; size = omega arith }
-fill_piece n (Zero a) (Zero b) = record { plain = refl; fit = refl; size = omega arith }
-
-pub fill_still : (n : ℕ) (low high : Spot) → Still (fill_code n low high)
-fill_still n (Behind p a) (Behind q b) v = record { to = λ calls. refl }
-fill_still n (Behind p a) (Data t b) v = record { to = λ calls. refl }
-fill_still n (Behind p a) (Zero b) v = record { to = λ calls. refl }
-fill_still n (Data s a) (Behind q b) v = record { to = λ calls. refl }
-fill_still n (Data s a) (Data t b) v = record { to = λ calls. refl }
-fill_still n (Data s a) (Zero b) v = record { to = λ calls. refl }
-fill_still n (Zero a) (Behind q b) v = record { to = λ calls. refl }
-fill_still n (Zero a) (Data t b) v = record { to = λ calls. refl }
-fill_still n (Zero a) (Zero b) v = record { to = λ calls. refl }
+pub fill_quiet : {ok : ℕ → Bool} (n : ℕ) (low high : Spot) → Quiet ok nowhere 10 (fill_code n low high)
+fill_quiet {ok = ok} n low high =
+    let byte : Quiet ok nowhere 2 (value Lda n ∷ []) = quiet_piece (record { plain = refl; fit = refl; size = omega arith }) (λ v. record { to = λ calls. refl }) in
+    quiet_as (λ l. refl) (quiet_then byte (quiet_then (reach_quiet Sta low reaches_sta) (beside_quiet Sta low high reaches_sta)))

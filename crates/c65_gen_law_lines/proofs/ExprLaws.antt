@@ -1,6 +1,6 @@
 -- The lines of an expression: its labels, its size, and the form of each line.
-use Rattle.std.proofs.Common.{◌≡◌, ℕ, ◌+◌, ◌-◌, ◌*◌, ◌≤◌, Bool, true, false, not, Option, None, Some, List, [], ◌∷◌, ◌++◌, refl, sym, ap, arith}
-use Rattle.std.specs.Prelude.{nat_lt, if◌then◌else◌}
+use Rattle.std.proofs.Common.{◌≡◌, ℕ, ◌+◌, ◌-◌, ◌*◌, ◌≤◌, Bool, true, false, not, Option, None, Some, List, [], ◌∷◌, ◌++◌, add-zero, refl, sym, ap, arith}
+use Rattle.std.specs.Prelude.{◌&&◌, nat_lt, if◌then◌else◌}
 use Rattle.c65_base.specs.declared.operators.BinaryOp.{BinaryOp}
 use Rattle.c65_base.specs.declared.operators.UnaryOp.{UnaryOp}
 use Rattle.c65_base.specs.declared.operators.UnaryOp.TheVariants as unary_ops
@@ -27,7 +27,7 @@ use Rattle.c65_gendirect.specs.declared.relation.Relation.{Relation}
 use Rattle.c65_gendirect.specs.Compare.{relation_of}
 use Rattle.c65_genexpr.specs.declared.types.Outcome.{Outcome}
 use Rattle.c65_genexpr.specs.declared.destination.Destination.{Destination}
-use Rattle.c65_genexpr.specs.declared.destination.Destination.TheVariants.{Registers}
+use Rattle.c65_genexpr.specs.declared.destination.Destination.TheVariants.{Registers, Pointer}
 use Rattle.c65_genexpr.specs.declared.operands.Operands.{Operands}
 use Rattle.c65_genexpr.specs.declared.operands.Operands.TheVariants.{Numbers, PointerFirst}
 use Rattle.c65_genexpr.specs.declared.comparing.Comparing.{Comparing}
@@ -40,8 +40,14 @@ use Rattle.c65_genexpr.specs.Types.{kind_of, outcome_of, kind_in, bare, offset_a
 use Rattle.c65_genexpr.specs.Places.{more, has_base, added_bytes, sum_has_base, object_place, place_of, target_of, object_code, target_code}
 use Rattle.c65_genexpr.specs.Operands.{residue_of, constant_in, operands_of, computes, unary_code, same_truth}
 use Rattle.c65_genexpr.specs.Direct.{kept_at}
+use Rattle.c65_genexpr.specs.declared.elements.Element.{Element}
+use Rattle.c65_genexpr.specs.Elements.{sum_element, element_of, element_at, element_or, loaded_element, element_byte_code}
+use Rattle.c65_genexpr.specs.Lows.{is_number, byte_in, low_operand, low_operand_or, behind_pointer, low_load_by}
+use Rattle.c65_gendirect.specs.declared.bytes.OperandByte.{OperandByte}
+use Rattle.c65_gendirect.specs.Words.{first_byte_code}
+use Rattle.c65_genload.specs.declared.places.Extent.TheVariants.{One}
 use Rattle.c65_genexpr.specs.Wanted.{sense_of, wanted_by, handed, handed_sense, wanted, aimed, sense, truth_labels, inner, truth_by, is_straight, way, way_labels}
-use Rattle.c65_genexpr.specs.Comparing.{relation_by, tested_by, comparing_of, below_side}
+use Rattle.c65_genexpr.specs.Comparing.{relation_by, tested_by, comparing_of, takes_low, low_code, below_side}
 use Rattle.c65_genexpr.specs.Operating.{operating_of, below_operand}
 use Rattle.c65_genexpr.specs.Destination.{arrived, destination_of}
 use Rattle.c65_genexpr.specs.Storing.{storing_of, below_value, base_for, assigned_by}
@@ -49,16 +55,18 @@ use Rattle.c65_genexpr.specs.Steps.{amount_of}
 use Rattle.c65_genexpr.specs.Arguments.{is_fast, is_counted, stays, passed_size, passed_of, argument_bytes}
 use Rattle.c65_genexpr.specs.Calls.{named}
 use Rattle.c65_genexpr.specs.Uses.{unless_named, by_relation, uses, node_uses, args_uses, comparison_uses}
-use Rattle.c65_genexpr.specs.Code.{width_in, load_by, behind_open, compound, call_by, expr_code, node_code, base_code, pointer_base_code, args_code, operator_code, comparison_code}
+use Rattle.c65_genexpr.specs.Code.{width_in, load_by, behind_open, compound, call_by, expr_code, node_code, base_code, pointer_base_code, args_code, operator_code, comparison_code, low_value_code, index_code, sum_index_code}
 use Rattle.c65_gen_law_lines.specs.Bulk.{nodes, nodes_in}
 use Rattle.c65_gen_law_lines.specs.Labels.{aims, may_lead}
 use Rattle.c65_gen_law_lines.specs.Laws.{ExpressionsOwnTheirLabels, ExpressionsAreSmall, ExpressionsAreFit}
-use Rattle.c65_gen_law_lines.proofs.Made.{all_fit, among_split, among_one, piece_append, stretch_then, stretch_label, stretch_made, made_stretch, leads_within, leads_inner, once_at, Made, made_piece, made_append, made_behind, made_before, made_wider, made_as, made_none, leads_outer}
+use Rattle.c65_gen_law_lines.proofs.Made.{all_fit, among_split, among_one, among_none, piece_append, stretch_then, stretch_label, stretch_made, made_stretch, leads_within, leads_inner, once_at, Made, made_piece, made_append, made_behind, made_before, made_wider, made_as, made_none, leads_outer}
 use Rattle.c65_gen_law_lines.proofs.Pieces.{narrow_piece, keep_piece, byte_behind_piece, word_behind_piece, read_bytes_piece, byte_through_piece, word_through_piece, by_access, passing_by, passing, part_piece, spill_piece, further_piece, symbol_piece, object_piece, offset_piece, unary_piece, push_piece, hold_piece, store_piece, copy_piece, open_piece, close_piece, named_piece, pointer_piece, argument_piece, direct_piece}
-use Rattle.c65_gen_law_lines.proofs.Pointed.{arrived_piece, fetch_piece}
-use Rattle.c65_gen_law_lines.proofs.Quiet.{Quiet}
+use Rattle.c65_gen_law_lines.proofs.Pointed.{arrived_piece, fetch_piece, behind_pointer_piece}
+use Rattle.c65_gen_law_lines.proofs.Quiet.{Quiet, made_still}
+use Rattle.c65_gen_law_lines.proofs.Directs.{loaded_quiet, first_quiet}
+use Rattle.c65_gen_law_lines.proofs.Elements.{Indexes, sum_indexes, onward_from, element_from, Reads, byte_idle, low_reads, element_value_quiet, element_test_quiet, element_byte_quiet}
 use Rattle.c65_gen_law_lines.proofs.StepForms.{step_quiet}
-use Rattle.c65_gen_law_lines.proofs.Drops.{comparing_uses, Unstored, storing_uses, sum_uses, operating_uses}
+use Rattle.c65_gen_law_lines.proofs.Drops.{comparing_uses, low_left, low_right, Unstored, storing_uses, sum_uses, operating_uses}
 use Rattle.c65_gen_law_lines.proofs.Wants.{made_from, made_closed, wanted_made, constant_made, test_part, tested_made, converted_made, truth_made, joined_made, comparison_made, operator_made, choice_made}
 
 -- ---- places that are known
@@ -174,7 +182,7 @@ either_made true ma mb = ma
 either_made false ma mb = mb
 
 -- the label of a sum that is left out
-labelled_made : {lo n k : ℕ} {a : List Line} → Made [] (lo + 1) n k a → Made [] lo (1 + n) k (Label lo ∷ a)
+pub labelled_made : {lo n k : ℕ} {a : List Line} → Made [] (lo + 1) n k a → Made [] lo (1 + n) k (Label lo ∷ a)
 labelled_made {lo = lo} {n = n} m = made_wider (made_stretch
     (stretch_then (stretch_label lo) (stretch_made m (leads_within [] (lo + 1) n lo (1 + n) (omega arith) (omega arith)) refl))
     (λ l. omega (arith, among_split lo 1 n l, among_one lo l)))
@@ -212,6 +220,32 @@ load_made Value place access le m = made_wider (made_behind m (fetch_piece place
 load_made {lo = lo} {n = n} (Test to s) place access le m =
     tested_made (kept_at place access) (loads.type_in access) s to (omega (arith, le, some_load access)) (omega (arith, le)) m (test_part (byte_field access) place access s to (leads_outer lo n to))
 
+-- an element, or a test of it
+element_load_made : {lo n k : ℕ} {index : List Line} (w : Wanted) (x : Element × IntType) → Made [] lo n k index → Made (aims w) lo n (k + 103) (loaded_element w x index)
+element_load_made Value x m = made_wider (made_still m (element_value_quiet x.0 x.1)) (omega arith)
+element_load_made {lo = lo} {n = n} (Test to s) x m = made_still (made_closed (to ∷ []) m) (element_test_quiet x.0 x.1 s to (leads_outer lo n to))
+
+-- an element, or a place that is none
+element_made : {outside : List ℕ} {lo n k : ℕ} {whole : List Line} (o : Option (Element × IntType)) (code : Element × IntType → List Line) → ((x : Element × IntType) → o ≡ Some x → Made outside lo n k (code x)) → Made outside lo n k whole → Made outside lo n k (element_or o code whole)
+element_made None code found other = other
+element_made (Some x) code found other = found x refl
+
+-- ---- low bytes
+
+-- behind a value that is read where it lies, or the lines of it
+low_made_by : {lo n k : ℕ} {code : List Line} (o : Option OperandByte) → 4 ≤ k → ((d : OperandByte) → o ≡ Some d → n ≡ 0) → Made [] lo n k code → Made [] lo n k (low_code o code)
+low_made_by None few free m = m
+low_made_by {lo = lo} (Some d) few free m = made_as (sym (free d refl)) (made_wider (made_stretch (loaded_quiet d).part (λ l. sym (among_none lo l))) few)
+
+-- an operator with an operand that is read
+low_operand_made : {lo n k : ℕ} {whole : List Line} (o : Option OperandByte) (code : OperandByte → List Line) → ((d : OperandByte) → o ≡ Some d → Made [] lo n k (code d)) → Made [] lo n k whole → Made [] lo n k (low_operand_or o code whole)
+low_operand_made None code found other = other
+low_operand_made (Some d) code found other = found d refl
+
+low_load_made : {lo n j k : ℕ} {base other : List Line} (o : Option ℕ) → j + 8 ≤ k → Made [] lo n j base → Made [] lo n k other → Made [] lo n k (low_load_by o base other)
+low_load_made None le mb mo = mo
+low_load_made (Some at) le mb mo = made_wider (made_behind mb (behind_pointer_piece at One)) le
+
 -- ---- the whole tree
 
 leaf : {outside : List ℕ} {lo k : ℕ} {code : List Line} (e : Typed) → k + 3 ≤ 128 → slack e ≡ 0 → Made outside lo 0 k code → Made outside lo 0 (room e) code
@@ -230,25 +264,37 @@ tested_side : {lo k : ℕ} {code : List Line} (e : Typed) (s : Option Bool) (to 
 tested_side e None to m = made_closed (to ∷ []) m
 tested_side e (Some s) to m = m
 
+-- a side, or the low byte of it
+side_made : {to lo n m k : ℕ} {low whole : List Line} (b : Bool) → (b ≡ true → n ≡ m) → Made [] lo n k low → Made (to ∷ []) lo m k whole → Made (to ∷ []) lo m k (if b then low else whole)
+side_made {to = to} true same ml mw = made_as (same refl) (made_closed (to ∷ []) ml)
+side_made false same ml mw = mw
+
 -- the lines of an expression for each place of its labels and whatever is wanted
 abbrev Parts : Framed → Typed → Type 0
 Parts f e = (pushed lo : ℕ) (w : Wanted) → Made (aims w) lo (uses (sense_of w) e) (room e) (expr_code f pushed lo w e)
 
-binary_made : (f : Framed) (pushed lo : ℕ) (w : Wanted) (t : QTy) (op : BinaryOp) (a b : Typed) → Parts f a → Parts f b → (r : Option Relation)
+-- and those of its low byte
+abbrev Lows : Framed → Typed → Type 0
+Lows f e = (pushed lo : ℕ) → Made [] lo (uses None e) (room e) (low_value_code f pushed lo e)
+
+binary_made : (f : Framed) (pushed lo : ℕ) (w : Wanted) (t : QTy) (op : BinaryOp) (a b : Typed) → Parts f a → Parts f b → Lows f a → Lows f b → (r : Option Relation)
     → Made (aims w) lo (by_relation r (1 + (uses None a + uses None b)) (λ q. truth_labels (sense_of w) + comparison_uses (relation_by (sense w) q) a b)) (room (node t (binary op a b)))
     (by_relation r (wanted w (width_in t) (operator_code f pushed lo Registers op a b)) (λ q. truth_by w lo (comparison_code f pushed (inner w lo) (aimed w lo) (sense w) op q a b)))
-binary_made f pushed lo w t op a b ma mb None =
+binary_made f pushed lo w t op a b ma mb la lb None =
     let operands : Operands = operands_of f (bare a) (bare b) in
     let how : Operating = operating_of f pushed op operands a b in
     made_wider (wanted_made w (width_in t) (operator_made Registers how op operands (kind_in b) lo (operating_uses f pushed op operands a b) (ma pushed (lo + 1) Value) (mb (below_operand how pushed (waiting (width_of (computes operands)))) (lo + 1 + uses None a) Value))) (omega (arith, some_nodes a, some_nodes b))
-binary_made f pushed lo w t op a b ma mb (Some r) =
+binary_made f pushed lo w t op a b ma mb la lb (Some r) =
     let operands : Operands = operands_of f (bare a) (bare b) in
     let q : Relation = relation_by (sense w) r in
     let how : Comparing = comparing_of f pushed q (computes operands) a b in
     let to : ℕ = aimed w lo in
     let own : ℕ = inner w lo in
+    let below : ℕ = below_side how pushed (waiting (width_of (computes operands))) in
+    let behind : ℕ = own + 1 + uses (tested_by q b) a in
     made_wider (truth_made w lo (comparison_made how op operands (kind_in b) (sense w) to own (comparing_uses f pushed q (computes operands) a b)
-    (tested_side a (tested_by q b) to (ma pushed (own + 1) (wanted_by (tested_by q b) to))) (tested_side b (tested_by q a) to (mb (below_side how pushed (waiting (width_of (computes operands)))) (own + 1 + uses (tested_by q b) a) (wanted_by (tested_by q a) to))))) (omega (arith, some_nodes a, some_nodes b))
+    (side_made (takes_low how) (λ h. ap (λ s. uses s a) (sym (low_left f pushed q (computes operands) a b h))) (la pushed (own + 1)) (tested_side a (tested_by q b) to (ma pushed (own + 1) (wanted_by (tested_by q b) to))))
+    (side_made (takes_low how) (λ h. ap (λ s. uses s b) (sym (low_right f pushed q (computes operands) a b h))) (lb below behind) (tested_side b (tested_by q a) to (mb below behind (wanted_by (tested_by q a) to)))))) (omega (arith, some_nodes a, some_nodes b))
 
 -- a sum goes straight to where its address is wanted; a comparison, which is none, has its lines
 sum_base_made : (f : Framed) (pushed lo : ℕ) (d : Destination) (t : QTy) (op : BinaryOp) (a b : Typed) → Parts f a → Parts f b → (r : Option Relation)
@@ -260,6 +306,18 @@ sum_base_made f pushed lo d t op a b ma mb None whole =
     let how : Operating = operating_of f pushed op operands a b in
     made_wider (operator_made d how op operands (kind_in b) lo (operating_uses f pushed op operands a b) (ma pushed (lo + 1) Value) (mb (below_operand how pushed (waiting (width_of (computes operands)))) (lo + 1 + uses None a) Value)) (omega (arith, some_nodes a, some_nodes b))
 sum_base_made f pushed lo d t op a b ma mb (Some r) whole = made_behind whole (arrived_piece d)
+
+some_room : (e : Typed) → 4 ≤ room e
+some_room (node t (member e m)) = omega (arith, some_nodes e)
+some_room (node t (pack e)) = omega (arith, some_nodes e)
+some_room (node t n) = omega (arith, some_nodes (node t n))
+
+-- one label beside those of the operand that takes lines
+read_uses : (f : Framed) (t : QTy) (op : BinaryOp) (a b : Typed) → Reads f op b → 1 + uses None a ≡ uses None (node t (binary op a b))
+read_uses f t op a b r = sym (rw (r.alone, r.right.uses, add-zero) refl)
+
+index_uses : (f : Framed) (t : QTy) (op : BinaryOp) (a b : Typed) → Indexes f op a → 1 + uses None b ≡ uses None (node t (binary op a b))
+index_uses f t op a b r = sym (rw (r.alone, r.array.uses) (omega arith))
 
 mutual
   pub expr_made : (f : Framed) (pushed lo : ℕ) (w : Wanted) (e : Typed) → Made (aims w) lo (uses (sense_of w) e) (room e) (expr_code f pushed lo w e)
@@ -276,7 +334,8 @@ mutual
   node_made f pushed lo w t (load e) =
       let place : Place = place_of f pushed e in
       let access : Access = access_of (types_of f.parts.types) e in
-      made_wider (load_made w place access (access_fits 19 36 (types_of f.parts.types) e (omega arith) (omega arith)) (base_made f pushed lo (destination_of access) e)) (omega (arith, some_nodes e, slack_fits e))
+      element_made (element_at f e) (λ x. loaded_element w x (index_code f pushed lo e)) (λ x h. made_wider (element_load_made w x (element_from f e x (λ y found. index_made f pushed lo e y found) h)) (omega (arith, some_nodes e)))
+      (made_wider (load_made w place access (access_fits 19 36 (types_of f.parts.types) e (omega arith) (omega arith)) (base_made f pushed lo (destination_of access) e)) (omega (arith, some_nodes e, slack_fits e)))
   node_made f pushed lo w t (address e) = made_wider (wanted_made w (width_in t) (expr_made f pushed lo Value e)) (omega (arith, some_nodes e))
   node_made f pushed lo w t (decay e) = made_wider (wanted_made w (width_in t) (expr_made f pushed lo Value e)) (omega (arith, some_nodes e))
   node_made f pushed lo w t (convert e) =
@@ -288,7 +347,7 @@ mutual
   node_made f pushed lo w t (unary unary_ops.Plus e) = unary_made w t unary_ops.Plus e (expr_made f pushed lo Value e)
   node_made f pushed lo w t (unary unary_ops.Deref e) = unary_made w t unary_ops.Deref e (expr_made f pushed lo Value e)
   node_made f pushed lo w t (unary unary_ops.Address e) = unary_made w t unary_ops.Address e (expr_made f pushed lo Value e)
-  node_made f pushed lo w t (binary op a b) = binary_made f pushed lo w t op a b (λ p l v. expr_made f p l v a) (λ p l v. expr_made f p l v b) (relation_of op)
+  node_made f pushed lo w t (binary op a b) = binary_made f pushed lo w t op a b (λ p l v. expr_made f p l v a) (λ p l v. expr_made f p l v b) (λ p l. low_made f p l a) (λ p l. low_made f p l b) (relation_of op)
   node_made f pushed lo w t (both a b) =
       let straight : Bool = is_straight false (sense w) in
       let own : ℕ = inner w lo in
@@ -346,6 +405,33 @@ mutual
   pointer_base_made f pushed lo d (node t (address e)) = made_wider (base_made f pushed lo d e) (omega (arith, some_nodes e))
   pointer_base_made f pushed lo d (node t (decay e)) = made_wider (base_made f pushed lo d e) (omega (arith, some_nodes e))
   pointer_base_made f pushed lo d (node t n) = made_behind (node_made f pushed lo Value t n) (arrived_piece d)
+
+  pub low_made : (f : Framed) (pushed lo : ℕ) (e : Typed) → Made [] lo (uses None e) (room e) (low_value_code f pushed lo e)
+  low_made f pushed lo (node t (convert e)) =
+      low_made_by (byte_in f pushed (node t (convert e))) (some_room (node t (convert e))) (λ d h. (byte_idle f pushed (node t (convert e)) d h).uses)
+      (either_made (is_number (type_in t) && is_number (bare e)) (made_wider (low_made f pushed lo e) (omega (arith, some_nodes e))) (node_made f pushed lo Value t (convert e)))
+  low_made f pushed lo (node t (binary op a b)) =
+      low_made_by (byte_in f pushed (node t (binary op a b))) (some_room (node t (binary op a b))) (λ d h. (byte_idle f pushed (node t (binary op a b)) d h).uses)
+      (low_operand_made (low_operand f pushed op a b) (λ d. Label lo ∷ (low_value_code f pushed (lo + 1) a ++ first_byte_code op d))
+      (λ d h. made_as (read_uses f t op a b (low_reads f pushed op a b d h)) (labelled_made (made_wider (made_still (low_made f pushed (lo + 1) a) (first_quiet op d)) (omega (arith, some_nodes a, some_nodes b)))))
+      (node_made f pushed lo Value t (binary op a b)))
+  low_made f pushed lo (node t (load e)) =
+      low_made_by (byte_in f pushed (node t (load e))) (some_room (node t (load e))) (λ d h. (byte_idle f pushed (node t (load e)) d h).uses)
+      (element_made (element_at f e) (λ x. index_code f pushed lo e ++ element_byte_code x.0)
+      (λ x h. made_wider (made_still (element_from f e x (λ y found. index_made f pushed lo e y found) h) (element_byte_quiet x.0)) (omega (arith, some_nodes e)))
+      (low_load_made (behind_pointer (place_of f pushed e) (access_of (types_of f.parts.types) e)) (omega (arith, some_nodes e, slack_fits e)) (base_made f pushed lo Pointer e) (node_made f pushed lo Value t (load e))))
+  low_made f pushed lo (node t n) =
+      low_made_by (byte_in f pushed (node t n)) (some_room (node t n)) (λ d h. (byte_idle f pushed (node t n) d h).uses) (node_made f pushed lo Value t n)
+
+  pub index_made : (f : Framed) (pushed lo : ℕ) (e : Typed) (x : Element) → element_of f e ≡ Some x → Made [] lo (uses None e) (128 * nodes e - 275) (index_code f pushed lo e)
+  index_made f pushed lo (node t (deref e)) x h = made_wider (sum_index_made f pushed lo e x h) (omega arith)
+  index_made f pushed lo (node t (member e m)) x h = onward_from (offset_at (types_of f.parts.types) (bare e) m) (element_of f e) x (λ y found. made_wider (index_made f pushed lo e y found) (omega arith)) h
+  index_made f pushed lo (node t _) x h = absurd cc
+
+  sum_index_made : (f : Framed) (pushed lo : ℕ) (e : Typed) (x : Element) → sum_element f e ≡ Some x → Made [] lo (uses None e) (128 * nodes e - 147) (sum_index_code f pushed lo e)
+  sum_index_made f pushed lo (node t (binary op a b)) x h =
+      made_as (index_uses f t op a b (sum_indexes f t op a b x h)) (labelled_made (made_wider (low_made f pushed (lo + 1) b) (omega (arith, some_nodes a, some_nodes b))))
+  sum_index_made f pushed lo (node t _) x h = absurd cc
 
   args_made : (f : Framed) (pushed lo : ℕ) (fast : Bool) (es : Nodes) → Made [] lo (args_uses es) (128 * nodes_in es) (args_code f pushed lo fast es)
   args_made f pushed lo fast none = made_none

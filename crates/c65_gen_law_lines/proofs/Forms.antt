@@ -19,7 +19,7 @@ use Rattle.c65_genexpr.specs.declared.operands.Operands.{Operands}
 use Rattle.c65_genexpr.specs.declared.operands.Operands.TheVariants.{Numbers, PointerFirst, PointerLast, Pointers}
 use Rattle.c65_genexpr.specs.declared.operating.Form.{Form}
 use Rattle.c65_genexpr.specs.declared.operating.Form.TheVariants.{Sum, LongSum, Mask, Constant, Word, Under, Indexed, Distance, DistanceUnder}
-use Rattle.c65_genexpr.specs.Held.{keep_code}
+use Rattle.c65_genexpr.specs.Held.{keep_code, keep_byte_code}
 use Rattle.c65_genexpr.specs.Operands.{computes}
 use Rattle.c65_genexpr.specs.Operating.{placed, value_form, pointed_word, pointed_form, form_code, waiting_code, stacked_code}
 use Rattle.c65_gen_law_lines.proofs.Made.{nowhere, once_at, stretch_piece, Stretch, stretch_then, stretch_as}
@@ -49,7 +49,7 @@ one_of_both _ fresh l = omega arith
 placed_word_quiet : {ok : ℕ → Bool} (op : BinaryOp) (low high : OperandByte) (fresh : ℕ) → ok fresh ≡ true → Quiet ok (once_at fresh) 13 (word_code op low high fresh ++ placed op fresh)
 placed_word_quiet op low high fresh passes = quiet_wider (quiet_as (one_of_both op fresh) (quiet_then (word_quiet op low high fresh passes) (placed_quiet op fresh))) (omega arith)
 
-value_quiet : {ok : ℕ → Bool} (form : Form) (label : ℕ) → ok label ≡ true → IsSmall form → Quiet ok (once_at label) 104 (value_form form label)
+pub value_quiet : {ok : ℕ → Bool} (form : Form) (label : ℕ) → ok label ≡ true → IsSmall form → Quiet ok (once_at label) 104 (value_form form label)
 value_quiet (Sum n) label passes small = quiet_wider (added_quiet n label passes) (omega arith)
 value_quiet {ok = ok} (LongSum n) label passes small =
     let sum : Quiet ok nowhere 21 (add_long_code n) = quiet_piece (record { plain = refl; fit = refl; size = omega arith }) (λ v. record { to = λ calls. refl }) in
@@ -87,6 +87,9 @@ form_quiet Pointer form label passes small = pointed_quiet form label passes sma
 
 pub keep_quiet : {ok : ℕ → Bool} → Quiet ok nowhere 4 keep_code
 keep_quiet = quiet_piece keep_piece keep_still
+
+pub keep_byte_quiet : {ok : ℕ → Bool} → Quiet ok nowhere 2 keep_byte_code
+keep_byte_quiet = quiet_piece (record { plain = refl; fit = refl; size = omega arith }) (λ v. record { to = λ calls. refl })
 
 abbrev pub before_size : Operands → ℕ
 before_size (PointerLast size) = 94

@@ -1,6 +1,6 @@
 -- The lines of a function are a segment.
 use Rattle.std.proofs.Common.{◌≡◌, ℕ, zero, suc, ◌+◌, ◌<◌, ◌≤◌, ◌||◌, ◌⊎◌, inl, inr, Bool, true, false, not, None, Some, List, [], ◌∷◌, ◌++◌, length, refl, sym, ◌∙◌, ap, slice_get, arith}
-use Rattle.std.specs.Prelude.{if◌then◌else◌, max, slice_index_or, nat_eq, IsSome, Contains}
+use Rattle.std.specs.Prelude.{◌&&◌, if◌then◌else◌, max, slice_index_or, nat_eq, IsSome, Contains}
 use Rattle.std.proofs.lemmas.Bool.{cases_eq, and_from, eq-eqb, ne_eqb}
 use Rattle.std.proofs.Math.Nat.{le-max_left, le-max_right}
 use Rattle.std.proofs.lemmas.List.{length-append}
@@ -20,7 +20,7 @@ use Rattle.c65_genentry.specs.Stack.{raise_code}
 use Rattle.c65_genentry.specs.Ends.{restored_code, plain_end, variadic_end, end_code}
 use Rattle.c65_genstmt.specs.Jumps.{following}
 use Rattle.c65_genstmt.specs.Cases.{room_of, room_in}
-use Rattle.c65_genstmt.specs.Stmts.{with_label, ways, with_stmt}
+use Rattle.c65_genstmt.specs.Stmts.{with_label, ways, with_last, returns_last}
 use Rattle.c65_genstmt.specs.Functions.{main_code, no_lines}
 use Rattle.c65_gen_law_lines.specs.Labels.{times, among}
 use Rattle.c65_gen_law_lines.specs.Laws.{FunctionsAreSegments}
@@ -28,7 +28,7 @@ use Rattle.c65_gen_law_lines.proofs.Made.{all_fit, within, among_inside, or_left
 use Rattle.c65_gen_law_lines.proofs.Flat.{Flat, flat_none, entry_flat, end_flat}
 use Rattle.c65_gen_law_lines.proofs.Puts.{one, below_next, below_more, at_most_one, one_same, one_other, Puts, puts_then, puts_end, puts_flat, puts_label}
 use Rattle.c65_gen_law_lines.proofs.Others.{names, names_in, others, laid, times_one, others_are}
-use Rattle.c65_gen_law_lines.proofs.StmtLaws.{Exits, stmt_puts}
+use Rattle.c65_gen_law_lines.proofs.StmtLaws.{Exits, last_puts}
 
 -- ---- no case stands outside a switch
 
@@ -246,10 +246,10 @@ abbrev entered : Framed → Stmt → RegSet → Drafted
 entered f body out = with_lines (begun body out) (entry_code f)
 
 abbrev run : Framed → Stmt → RegSet → Drafted
-run f body out = with_stmt f (ways 0 0 0) 0 body (entered f body out)
+run f body out = with_last f (ways 0 0 0) 0 body (entered f body out)
 
 abbrev ended : Framed → Bool → Stmt → RegSet → Drafted
-ended f is_main body out = with_label 0 (with_lines (run f body out) (main_code is_main))
+ended f is_main body out = with_label 0 (with_lines (run f body out) (main_code (is_main && not (returns_last body))))
 
 abbrev whole : Framed → Bool → Stmt → RegSet → Drafted
 whole f is_main body out = with_lines (ended f is_main body out) (end_code f)
@@ -262,8 +262,9 @@ whole_puts : (u : UnitTy) (g : FuncTy) (body : Stmt) (f : Framed) (is_main : Boo
     → Puts (begun body out) (whole f is_main body out) (λ x. others 0 0 body x + one 0 x) (Exits (ways 0 0 0) (labels_of body))
 whole_puts u g body f is_main out well few =
     let m1 : Drafted = run f body out in
-    let m2 : Drafted = with_lines m1 (main_code is_main) in
-    puts_end (puts_then (puts_flat (begun body out) (entry_code f) (entry_flat f)) (puts_then (stmt_puts u (context_of g body) f (ways 0 0 0) 0 body (entered f body out) well.typed few) (puts_then (puts_flat m1 (main_code is_main) (main_flat is_main)) (puts_then (puts_label m2 0) (puts_flat (ended f is_main body out) (end_code f) (end_flat f)))))) (λ x. omega arith) (λ ok ex. (tt, (ex, (tt, (tt, tt)))))
+    let first : Bool = is_main && not (returns_last body) in
+    let m2 : Drafted = with_lines m1 (main_code first) in
+    puts_end (puts_then (puts_flat (begun body out) (entry_code f) (entry_flat f)) (puts_then (last_puts u (context_of g body) f (ways 0 0 0) 0 body (entered f body out) well.typed few) (puts_then (puts_flat m1 (main_code first) (main_flat first)) (puts_then (puts_label m2 0) (puts_flat (ended f is_main body out) (end_code f) (end_flat f)))))) (λ x. omega arith) (λ ok ex. (tt, (ex, (tt, (tt, tt)))))
 
 known : (u : UnitTy) (g : FuncTy) (body : Stmt) (x : ℕ) → IsBody u g body → others 0 0 body x ≡ stated x (labels_of body)
 known u g body x well =

@@ -9,6 +9,8 @@ pub mod Pointed
 pub mod Drops
 pub mod Forms
 pub mod Wants
+pub mod Elements
+pub mod Placing
 pub mod EffectForms
 pub mod FieldForms
 pub mod StepForms

@@ -7,7 +7,8 @@ use Rattle.c65_mach.specs.declared.rows.Mode.TheVariants.{Absolute, Relative}
 use Rattle.c65_code.specs.declared.line.Operand.TheVariants.{To}
 use Rattle.c65_code.specs.declared.line.Line.{Line}
 use Rattle.c65_code.specs.declared.line.Line.TheVariants.{Label, Do}
-use Rattle.c65_gen_law_lines.proofs.Made.{is_early, Piece, Stretch, nowhere, once_at, stretch_then, stretch_piece, stretch_label, stretch_branch, stretch_jump, stretch_wider}
+use Rattle.c65_gen_law_lines.specs.Labels.{may_lead}
+use Rattle.c65_gen_law_lines.proofs.Made.{is_early, Piece, Stretch, Made, nowhere, once_at, leads_within, outside_stay, stretch_made, made_stretch, stretch_then, stretch_piece, stretch_label, stretch_branch, stretch_jump, stretch_wider}
 use Rattle.c65_gen_law_lines.proofs.Leaves.{leaves_then, leaves_none, Still}
 
 pub record Quiet (ok : ℕ → Bool) (own : ℕ → ℕ) (k : ℕ) (lines : List Line) : Type 0 where
@@ -41,3 +42,10 @@ quiet_as same p = record { part = record { once = λ l. p.part.once l ∙ same l
 pub quiet_if : {ok : ℕ → Bool} {f : ℕ → ℕ} {k : ℕ} (b : Bool) {x y : List Line} → Quiet ok f k x → Quiet ok f k y → Quiet ok f k (if b then x else y)
 quiet_if true p q = p
 quiet_if false p q = q
+
+-- behind the lines of a node, and before them
+pub made_still : {outside : List ℕ} {lo n j k : ℕ} {a q : List Line} → Made outside lo n j a → Quiet (may_lead lo n outside) nowhere k q → Made outside lo n (j + k) (a ++ q)
+made_still {outside = outside} {lo = lo} {n = n} m q = made_stretch (stretch_then (stretch_made m (leads_within outside lo n lo n (omega arith) (omega arith)) (outside_stay lo n outside)) q.part) (λ l. omega arith)
+
+pub still_made : {outside : List ℕ} {lo n j k : ℕ} {q a : List Line} → Quiet (may_lead lo n outside) nowhere j q → Made outside lo n k a → Made outside lo n (j + k) (q ++ a)
+still_made {outside = outside} {lo = lo} {n = n} q m = made_stretch (stretch_then q.part (stretch_made m (leads_within outside lo n lo n (omega arith) (omega arith)) (outside_stay lo n outside))) (λ l. omega arith)

@@ -1,6 +1,6 @@
 -- The rows of statements, functions and whole programs: the 6502 has them all.
-use Rattle.std.proofs.Common.{◌≡◌, ℕ, zero, suc, ◌+◌, ◌==◌, Bool, true, false, ℤ, Option, None, Some, List, [], ◌∷◌, ◌++◌, length, slice_get, refl, sym, ◌∙◌, ap, subst}
-use Rattle.std.specs.Prelude.{Result, Ok}
+use Rattle.std.proofs.Common.{◌≡◌, ℕ, zero, suc, ◌+◌, ◌==◌, Bool, true, false, not, ℤ, Option, None, Some, List, [], ◌∷◌, ◌++◌, length, slice_get, refl, sym, ◌∙◌, ap, subst}
+use Rattle.std.specs.Prelude.{◌&&◌, Result, Ok}
 use Rattle.std.specs.List.{list_all}
 use Rattle.c65_base.specs.Answers.{Fault}
 use Rattle.c65_csem.specs.declared.items.Parts.{Parts}
@@ -24,7 +24,7 @@ use Rattle.c65_genentry.specs.Ends.{end_code}
 use Rattle.c65_genstmt.specs.declared.jumps.Ways.{Ways}
 use Rattle.c65_genstmt.specs.Jumps.{following, with_value, with_test}
 use Rattle.c65_genstmt.specs.Objects.{spot_of, object_bytes}
-use Rattle.c65_genstmt.specs.Stmts.{case_behind, with_label, with_jump, two_given, three_given, with_maybe, with_effects, with_guard, ways, default_way, with_stmt, with_stmts, with_cases}
+use Rattle.c65_genstmt.specs.Stmts.{case_behind, with_label, with_jump, two_given, three_given, with_maybe, with_effects, with_guard, ways, default_way, with_stmt, with_stmts, with_last, with_lasts, returns_last, is_empty, with_way, with_cases}
 use Rattle.c65_genstmt.specs.Cases.{room_of}
 use Rattle.c65_genstmt.specs.Functions.{gives_of, main_code, no_lines, with_function, segment_of, function_of}
 use Rattle.c65_genstmt.specs.Programs.{one_more, function_added, functions_from, functions_of, code_of}
@@ -33,7 +33,7 @@ use Rattle.c65_gen_law_lines.specs.Laws.{ProgramsAreNmos}
 use Rattle.c65_gen_law_lines.proofs.Made.{is_early, all_nmos}
 use Rattle.c65_gen_law_lines.proofs.Flat.{entry_flat, end_flat}
 use Rattle.c65_gen_law_lines.proofs.Puts.{puts_flat, puts_label, puts_jump, puts_value, puts_effect, puts_test}
-use Rattle.c65_gen_law_lines.proofs.StmtLaws.{set_puts, zeros_puts, choice_puts, maybe_puts, effects_puts, guard_puts}
+use Rattle.c65_gen_law_lines.proofs.StmtLaws.{way_puts, set_puts, zeros_puts, choice_puts, maybe_puts, effects_puts, guard_puts}
 use Rattle.c65_gen_law_lines.proofs.FunctionLaws.{main_flat}
 use Rattle.c65_gen_law_lines.proofs.ProgramLaws.{bound, answer}
 
@@ -53,12 +53,12 @@ mutual
   stmt_rows f w l (if_stmt e a b) d h =
       let m1 : Drafted = with_test f d.labels false e (two_given d) in
       let m2 : Drafted = with_stmt f w l a m1 in
-      let m3 : Drafted = with_jump (d.labels + 1) m2 in
+      let m3 : Drafted = with_way (is_empty b) (d.labels + 1) m2 in
       let m4 : Drafted = with_label d.labels m3 in
       let m5 : Drafted = with_stmt f w (case_behind l a) b m4 in
       let k1 : IsEarly m1 = (puts_test f d.labels false e (two_given d)).fit h in
       let k2 : IsEarly m2 = stmt_rows f w l a m1 k1 in
-      let k4 : IsEarly m4 = (puts_label m3 d.labels).fit ((puts_jump m2 (d.labels + 1)).fit k2) in
+      let k4 : IsEarly m4 = (puts_label m3 d.labels).fit ((way_puts (is_empty b) m2 (d.labels + 1)).fit k2) in
       (puts_label m5 (d.labels + 1)).fit (stmt_rows f w (case_behind l a) b m4 k4)
   stmt_rows f w l (while e a) d h =
       let m1 : Drafted = with_label d.labels (two_given d) in
@@ -110,17 +110,29 @@ mutual
   stmts_rows f w l no_stmts d h = h
   stmts_rows f w l (and_stmts a ss) d h = stmts_rows f w (case_behind l a) ss (with_stmt f w l a d) (stmt_rows f w l a d h)
 
+mutual
+  last_rows : (f : Framed) (w : Ways) (l : ℕ) (s : Stmt) (d : Drafted) → IsEarly d → IsEarly (with_last f w l s d)
+  last_rows f w l (block os ss) d h = lasts_rows f w l ss d h
+  last_rows f w l (return e) d h = (maybe_puts f e d).fit h
+  last_rows f w l a d h = stmt_rows f w l a d h
+
+  lasts_rows : (f : Framed) (w : Ways) (l : ℕ) (ss : Stmts) (d : Drafted) → IsEarly d → IsEarly (with_lasts f w l ss d)
+  lasts_rows f w l no_stmts d h = h
+  lasts_rows f w l (and_stmts a no_stmts) d h = last_rows f w l a d h
+  lasts_rows f w l (and_stmts a (and_stmts b ss)) d h = lasts_rows f w (case_behind l a) (and_stmts b ss) (with_stmt f w l a d) (stmt_rows f w l a d h)
+
 -- ---- functions
 
 function_rows : (f : Framed) (is_main : Bool) (body : Stmt) (out : RegSet) → IsEarly (with_function f is_main (Some body) (no_lines out))
 function_rows f is_main body out =
     let d : Drafted = with_labels (room_of body) (with_labels 1 (no_lines out)) in
     let m0 : Drafted = with_lines d (entry_code f) in
-    let m1 : Drafted = with_stmt f (ways 0 0 0) 0 body m0 in
-    let m2 : Drafted = with_lines m1 (main_code is_main) in
+    let m1 : Drafted = with_last f (ways 0 0 0) 0 body m0 in
+    let first : Bool = is_main && not (returns_last body) in
+    let m2 : Drafted = with_lines m1 (main_code first) in
     let m3 : Drafted = with_label 0 m2 in
     let k0 : IsEarly m0 = (puts_flat d (entry_code f) (entry_flat f)).fit refl in
-    let k2 : IsEarly m2 = (puts_flat m1 (main_code is_main) (main_flat is_main)).fit (stmt_rows f (ways 0 0 0) 0 body m0 k0) in
+    let k2 : IsEarly m2 = (puts_flat m1 (main_code first) (main_flat first)).fit (last_rows f (ways 0 0 0) 0 body m0 k0) in
     (puts_flat m3 (end_code f) (end_flat f)).fit ((puts_label m2 0).fit k2)
 
 segment_rows : (parts : Parts) (is_main : Bool) (modes : Modes) (g : FuncTy) (body : Stmt) (s : Segment) → g.body ≡ Some body → function_of parts is_main modes g ≡ Ok s → list_all is_nmos_line s.lines ≡ true

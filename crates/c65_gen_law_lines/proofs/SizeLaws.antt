@@ -1,5 +1,6 @@
 -- The bytes of statements and functions, by their nodes.
-use Rattle.std.proofs.Common.{ℕ, ◌+◌, ◌*◌, ◌%◌, ◌≤◌, Bool, true, false, ℤ, List, [], ◌∷◌, length, arith}
+use Rattle.std.specs.Prelude.{◌&&◌}
+use Rattle.std.proofs.Common.{ℕ, ◌+◌, ◌*◌, ◌%◌, ◌≤◌, Bool, true, false, not, ℤ, List, [], ◌∷◌, length, arith}
 use Rattle.std.proofs.lemmas.List.{length-append}
 use Rattle.c65_csem.specs.Trees.{Typed, MaybeTyped, absent, present, Stmt, empty, eval, set_part, clear, block, if_stmt, while, do_while, for_loop, switch, case, default, label, goto, break, continue, return, Stmts, no_stmts, and_stmts}
 use Rattle.c65_csem.specs.Places.{is_tag}
@@ -31,7 +32,7 @@ use Rattle.c65_genstmt.specs.declared.objects.Spot.TheVariants.{Bank, Soft, Data
 use Rattle.c65_geneffect.specs.Effects.{effect_code}
 use Rattle.c65_genstmt.specs.Jumps.{following, with_value, with_effect, with_test}
 use Rattle.c65_genstmt.specs.Objects.{spot_of, object_bytes, point_code, stored_code, with_copied, with_kept, with_zeros}
-use Rattle.c65_genstmt.specs.Stmts.{case_behind, with_label, with_jump, two_given, three_given, with_maybe, with_effects, with_guard, ways, default_way, with_stmt, with_stmts, with_cases}
+use Rattle.c65_genstmt.specs.Stmts.{case_behind, with_label, with_jump, two_given, three_given, with_maybe, with_effects, with_guard, ways, default_way, with_stmt, with_stmts, with_last, with_lasts, returns_last, is_empty, with_way, with_cases}
 use Rattle.c65_genstmt.specs.Cases.{room_of}
 use Rattle.c65_genstmt.specs.Functions.{main_code, no_lines}
 use Rattle.c65_gen_law_lines.specs.Bulk.{nodes, maybe_nodes, statement_nodes, statements_nodes}
@@ -72,6 +73,10 @@ label_grows l d = record { size = omega (arith, size-append d.lines (Label l ∷
 
 jump_grows : (l : ℕ) (d : Drafted) → Grows 3 d (with_jump l d)
 jump_grows l d = record { size = omega (arith, size-append d.lines (jump Jmp l ∷ [])) }
+
+way_grows : (at : Bool) (l : ℕ) (d : Drafted) → Grows 3 d (with_way at l d)
+way_grows true l d = grows_wider grows_same (omega arith)
+way_grows false l d = jump_grows l d
 
 test_grows : (f : Framed) (to : ℕ) (s : Bool) (e : Typed) (d : Drafted) → Grows (128 * nodes e) d (with_test f to s e d)
 test_grows f to s e d = record { size = omega (arith, size-append d.lines (expr_code f 0 d.labels (Test to s) e), (expr_made f 0 d.labels (Test to s) e).size) }
@@ -130,10 +135,10 @@ mutual
   stmt_small f w l (if_stmt e a b) d =
       let m1 : Drafted = with_test f d.labels false e (two_given d) in
       let m2 : Drafted = with_stmt f w l a m1 in
-      let m3 : Drafted = with_jump (d.labels + 1) m2 in
+      let m3 : Drafted = with_way (is_empty b) (d.labels + 1) m2 in
       let m4 : Drafted = with_label d.labels m3 in
       let m5 : Drafted = with_stmt f w (case_behind l a) b m4 in
-      record { size = omega (arith, (test_grows f d.labels false e (two_given d)).size, (stmt_small f w l a m1).size, (jump_grows (d.labels + 1) m2).size, (label_grows d.labels m3).size, (stmt_small f w (case_behind l a) b m4).size, (label_grows (d.labels + 1) m5).size, length-append (cases_of a) (cases_of b)) }
+      record { size = omega (arith, (test_grows f d.labels false e (two_given d)).size, (stmt_small f w l a m1).size, (way_grows (is_empty b) (d.labels + 1) m2).size, (label_grows d.labels m3).size, (stmt_small f w (case_behind l a) b m4).size, (label_grows (d.labels + 1) m5).size, length-append (cases_of a) (cases_of b)) }
   stmt_small f w l (while e a) d =
       let m1 : Drafted = with_label d.labels (two_given d) in
       let m2 : Drafted = with_test f (d.labels + 1) false e m1 in
@@ -182,6 +187,19 @@ mutual
       let m : Drafted = with_stmt f w l a d in
       record { size = omega (arith, (stmt_small f w l a d).size, (stmts_small f w (case_behind l a) ss m).size, length-append (cases_of a) (cases_in ss)) }
 
+mutual
+  last_small : (f : Framed) (w : Ways) (l : ℕ) (s : Stmt) (d : Drafted) → Within s d (with_last f w l s d)
+  last_small f w l (block os ss) d = record { size = omega (arith, (lasts_small f w l ss d).size) }
+  last_small f w l (return e) d = record { size = omega (arith, (maybe_grows f e d).size) }
+  last_small f w l a d = stmt_small f w l a d
+
+  lasts_small : (f : Framed) (w : Ways) (l : ℕ) (ss : Stmts) (d : Drafted) → AllWithin ss d (with_lasts f w l ss d)
+  lasts_small f w l no_stmts d = record { size = omega arith }
+  lasts_small f w l (and_stmts a no_stmts) d = record { size = omega (arith, (last_small f w l a d).size, length-append (cases_of a) []) }
+  lasts_small f w l (and_stmts a (and_stmts b ss)) d =
+      let m : Drafted = with_stmt f w l a d in
+      record { size = omega (arith, (stmt_small f w l a d).size, (lasts_small f w (case_behind l a) (and_stmts b ss) m).size, length-append (cases_of a) (cases_in (and_stmts b ss))) }
+
 -- ---- functions
 
 pub functions_are_small : FunctionsAreSmall
@@ -189,7 +207,8 @@ functions_are_small parts modes g body f is_main out framed =
     let frame : (f.soft ≤ 1025) × (f.stacked ≤ 1024) × (length f.moved ≤ length g.params) = frames_are_small parts modes g f framed in
     let d : Drafted = with_labels (room_of body) (with_labels 1 (no_lines out)) in
     let m0 : Drafted = with_lines d (entry_code f) in
-    let m1 : Drafted = with_stmt f (ways 0 0 0) 0 body m0 in
-    let m2 : Drafted = with_lines m1 (main_code is_main) in
+    let m1 : Drafted = with_last f (ways 0 0 0) 0 body m0 in
+    let first : Bool = is_main && not (returns_last body) in
+    let m2 : Drafted = with_lines m1 (main_code first) in
     let m3 : Drafted = with_label 0 m2 in
-    omega (arith, (grows_lines (105 + 19 * length f.moved) d (entry_code f) (entry_size f frame.0)).size, (stmt_small f (ways 0 0 0) 0 body m0).size, (grows_lines 4 m1 (main_code is_main) (main_size is_main)).size, (label_grows 0 m2).size, (grows_lines 90 m3 (end_code f) (end_size f frame.0 (omega (arith, frame.1)))).size, frame.2)
+    omega (arith, (grows_lines (105 + 19 * length f.moved) d (entry_code f) (entry_size f frame.0)).size, (last_small f (ways 0 0 0) 0 body m0).size, (grows_lines 4 m1 (main_code first) (main_size first)).size, (label_grows 0 m2).size, (grows_lines 90 m3 (end_code f) (end_size f frame.0 (omega (arith, frame.1)))).size, frame.2)

@@ -1,6 +1,6 @@
 -- An expression's lines leave what waits, and each call takes away what was passed to it.
 use Rattle.std.proofs.Common.{◌≡◌, ℕ, ◌+◌, ◌%◌, ◌==◌, Bool, true, false, not, Option, None, Some, List, [], ◌∷◌, ◌++◌, refl, sym, ◌∙◌, ap, subst, arith}
-use Rattle.std.specs.Prelude.{if◌then◌else◌}
+use Rattle.std.specs.Prelude.{◌&&◌, if◌then◌else◌}
 use Rattle.std.proofs.lemmas.Bool.{eq-eqb}
 use Rattle.c65_base.specs.declared.operators.BinaryOp.{BinaryOp}
 use Rattle.c65_base.specs.declared.operators.UnaryOp.{UnaryOp}
@@ -51,6 +51,7 @@ use Rattle.c65_genexpr.specs.declared.wanted.Wanted.{Wanted}
 use Rattle.c65_genexpr.specs.declared.wanted.Wanted.TheVariants.{Value, Test}
 use Rattle.c65_genexpr.specs.declared.destination.Destination.{Destination}
 use Rattle.c65_genexpr.specs.declared.destination.Destination.TheVariants.{Registers}
+use Rattle.c65_genexpr.specs.declared.destination.Destination.TheVariants as destinations
 use Rattle.c65_genexpr.specs.declared.operands.Operands.{Operands}
 use Rattle.c65_genexpr.specs.declared.operands.Operands.TheVariants.{Numbers, PointerFirst}
 use Rattle.c65_genexpr.specs.declared.arguments.Passed.{Passed}
@@ -60,9 +61,13 @@ use Rattle.c65_genexpr.specs.Types.{kind_of, outcome_of, given_bytes, kind_in, b
 use Rattle.c65_genexpr.specs.Places.{more, has_base, added_bytes, sum_has_base, object_place, place_of, target_of, object_code, target_code}
 use Rattle.c65_genexpr.specs.Operands.{residue_of, constant_in, operands_of, computes, unary_code, same_truth, conversion_by}
 use Rattle.c65_genexpr.specs.Direct.{kept_at, own_bytes}
+use Rattle.c65_genexpr.specs.declared.elements.Element.{Element}
+use Rattle.c65_genexpr.specs.Elements.{sum_element, element_of, element_at, element_or, loaded_element, element_byte_code}
+use Rattle.c65_genexpr.specs.Lows.{is_number, byte_in, low_operand, low_operand_or, behind_pointer, low_load_by}
+use Rattle.c65_gendirect.specs.Words.{first_byte_code}
 use Rattle.c65_genexpr.specs.Wanted.{decided_code, wanted_by, handed, branch_code, value_test_code, wanted, aimed, sense, inner, truth_by, is_straight, way, way_labels, joined as both_joined}
 use Rattle.c65_genexpr.specs.Held.{held_low, held_high}
-use Rattle.c65_genexpr.specs.Comparing.{relation_by, tested_by, comparing_of, low_code, below_side, comparison_by}
+use Rattle.c65_genexpr.specs.Comparing.{relation_by, tested_by, comparing_of, takes_low, low_code, below_side, comparison_by}
 use Rattle.c65_genexpr.specs.Operating.{operating_of, below_operand, operator_by}
 use Rattle.c65_genexpr.specs.Destination.{arrived, destination_of, fetch_code as loaded_code}
 use Rattle.c65_genexpr.specs.Storing.{storing_of, below_value, base_for, assigned_by}
@@ -73,12 +78,13 @@ use Rattle.c65_genexpr.specs.Calls.{named, count_code, fetch_code, result_code, 
 use Rattle.c65_genexpr.specs.Uses.{by_relation, uses}
 use Rattle.c65_genfield.specs.Bits.{byte_field}
 use Rattle.c65_genexpr.specs.Fields.{byte_test, number_test, loaded_test}
-use Rattle.c65_genexpr.specs.Code.{width_in, constant_code, tested_load, load_by, behind_open, compound, call_by, expr_code, node_code, base_code, pointer_base_code, args_code, operator_code, comparison_code}
+use Rattle.c65_genexpr.specs.Code.{width_in, constant_code, tested_load, load_by, behind_open, compound, call_by, expr_code, node_code, base_code, pointer_base_code, args_code, operator_code, comparison_code, low_value_code, index_code, sum_index_code}
 use Rattle.c65_gen_law_lines.specs.Stack.{bytes_in, Waiting, waiting_by, taken, left, waits, argument_bytes, passed, unless_named, calls_of, node_calls, args_calls}
 use Rattle.c65_gen_law_lines.specs.Laws.{ExpressionsKeepTheStack, CallsAreCounted}
-use Rattle.c65_gen_law_lines.proofs.Directs.{loaded_quiet, compare_quiet, compare_byte_quiet, zero_test_quiet, truth_quiet}
+use Rattle.c65_gen_law_lines.proofs.Directs.{loaded_quiet, first_quiet, compare_quiet, compare_byte_quiet, zero_test_quiet, truth_quiet}
 use Rattle.c65_gen_law_lines.proofs.Drops.{IfRead, Unread, comparing_calls, Unstored, storing_calls, sum_calls, Unused, operating_calls}
-use Rattle.c65_gen_law_lines.proofs.Forms.{form_quiet, waiting_leaves, stacked_leaves, keep_quiet}
+use Rattle.c65_gen_law_lines.proofs.Forms.{form_quiet, waiting_leaves, stacked_leaves, keep_quiet, keep_byte_quiet}
+use Rattle.c65_gen_law_lines.proofs.Elements.{sum_indexes, onward_from, element_from, byte_idle, low_reads, element_value_quiet, element_test_quiet, element_byte_quiet}
 use Rattle.c65_gen_law_lines.proofs.Pointed.{arrived_still, behind_pointer_still, fetch_still}
 use Rattle.c65_gen_law_lines.proofs.StepForms.{step_quiet}
 use Rattle.c65_gen_law_lines.proofs.FieldForms.{own_bits_still}
@@ -107,7 +113,7 @@ pub does_before : {cs : List (List ℕ)} {v u t : List ℕ} {a b : List Line} �
 does_before {cs = cs} {v = v} {a = a} {b = b} p q = record { to = λ rest. waits_append a b (Some (waiting_by v (cs ++ rest))) ∙ (ap (λ w. waits w b) (p.to (cs ++ rest)) ∙ q.to rest) }
 
 -- a label, a branch or a jump
-does_line : {cs : List (List ℕ)} {v u : List ℕ} {a : List Line} (line : Line) → ((w : Waiting) → waits (Some w) (line ∷ []) ≡ Some w) → Does cs v a u → Does cs v (line ∷ a) u
+pub does_line : {cs : List (List ℕ)} {v u : List ℕ} {a : List Line} (line : Line) → ((w : Waiting) → waits (Some w) (line ∷ []) ≡ Some w) → Does cs v a u → Does cs v (line ∷ a) u
 does_line {cs = cs} {v = v} {a = a} line still p = record { to = λ rest. waits_append (line ∷ []) a (Some (waiting_by v (cs ++ rest))) ∙ (ap (λ w. waits w a) (still (waiting_by v (cs ++ rest))) ∙ p.to rest) }
 
 does_none : {v : List ℕ} → Does [] v [] v
@@ -208,9 +214,16 @@ comparison_does (comparing.Whole side.Left r is_signed sides) op operands right 
 comparison_does (comparing.Whole side.Right r is_signed sides) op operands right s to own quiet da db v = right_alone quiet (does_behind (db v) ((compare_quiet {ok = λ l. true} r is_signed sides own to refl refl).still v))
 comparison_does (comparing.Held r is_signed) op operands right s to own quiet da db v =
     does_then (da v) (does_before ((keep_quiet {ok = λ l. true}).still v) (does_behind (db v) ((compare_quiet {ok = λ l. true} r is_signed (Word held_low held_high) own to refl refl).still v)))
+comparison_does (comparing.HeldByte r) op operands right s to own quiet da db v =
+    does_behind (does_then (da v) (does_before ((keep_byte_quiet {ok = λ l. true}).still v) (does_behind (db v) ((compare_byte_quiet {ok = λ l. true} r held_low to refl).still v)))) (one_label own)
 comparison_does comparing.Stacked op operands right s to own quiet da db v =
     let last : Leaves v (implied Tay ∷ branch_code s to) v = record { to = λ calls. refl } in
     does_behind (does_then (da v) (does_before (between_leaves operands v) (does_behind (db (waiting (width_of (computes operands)) ∷ v)) (leaves_then (behind_leaves op operands right v) last)))) (one_label own)
+
+-- a side, or the low byte of it
+side_does : {cs : List (List ℕ)} {v : List ℕ} {low whole : List Line} (b : Bool) → Does cs v low v → Does cs v whole v → Does cs v (if b then low else whole) v
+side_does true dl dw = dl
+side_does false dl dw = dw
 
 operator_does : {cs ds : List (List ℕ)} {a b : List Line} (d : Destination) (how : Operating) (op : BinaryOp) (operands : Operands) (right : IntType) (own : ℕ) → Unused how (cs ≡ []) (ds ≡ []) → Doing cs a → Doing ds b → Doing (cs ++ ds) (operator_by d how op operands right own a b)
 operator_does d (operating.Left form) op operands right own small da db v = left_alone small.1 (does_behind (da v) ((form_quiet {ok = λ l. true} d form own refl small.0).still v))
@@ -294,6 +307,28 @@ call_does {v = v} f None given g (some e es) dc da db =
     let all : Nodes = some e es in
     does_then dc (does_before (push_leaves Ax v) (does_then db (pointer_does (is_counted (bare g)) (passed_of f (is_fast (bare g)) all) given (passed f (is_fast (bare g)) all) v)))
 
+-- ---- elements and low bytes
+
+element_load_does : {cs : List (List ℕ)} {v : List ℕ} {index : List Line} (w : Wanted) (x : Element × IntType) → Does cs v index v → Does cs v (loaded_element w x index) v
+element_load_does {v = v} Value x d = does_behind d ((element_value_quiet {ok = λ l. true} x.0 x.1).still v)
+element_load_does {v = v} (Test to s) x d = does_behind d ((element_test_quiet {ok = λ l. true} x.0 x.1 s to refl).still v)
+
+element_does : {cs : List (List ℕ)} {v : List ℕ} {whole : List Line} (o : Option (Element × IntType)) (code : Element × IntType → List Line) → ((x : Element × IntType) → o ≡ Some x → Does cs v (code x) v) → Does cs v whole v → Does cs v (element_or o code whole) v
+element_does None code found other = other
+element_does (Some x) code found other = found x refl
+
+low_does_by : {cs : List (List ℕ)} {v : List ℕ} {code : List Line} (o : Option OperandByte) → ((d : OperandByte) → o ≡ Some d → cs ≡ []) → Does cs v code v → Does cs v (low_code o code) v
+low_does_by None free d = d
+low_does_by {v = v} (Some byte) free d = does_as (sym (free byte refl)) (does_leaves ((loaded_quiet {ok = λ l. true} byte).still v))
+
+low_operand_does : {cs : List (List ℕ)} {v : List ℕ} {whole : List Line} (o : Option OperandByte) (code : OperandByte → List Line) → ((d : OperandByte) → o ≡ Some d → Does cs v (code d) v) → Does cs v whole v → Does cs v (low_operand_or o code whole) v
+low_operand_does None code found other = other
+low_operand_does (Some d) code found other = found d refl
+
+low_load_does : {cs : List (List ℕ)} {v : List ℕ} {base other : List Line} (o : Option ℕ) → Does cs v base v → Does cs v other v → Does cs v (low_load_by o base other) v
+low_load_does None db d = d
+low_load_does {v = v} (Some at) db d = does_behind db (behind_pointer_still at One v)
+
 -- ---- the whole tree
 
 does_to : {cs : List (List ℕ)} {v u t : List ℕ} {a : List Line} → u ≡ t → Does cs v a u → Does cs v a t
@@ -310,20 +345,26 @@ compound_does f pushed op operands a b v da db =
 abbrev Acts : Framed → Typed → Type 0
 Acts f e = (pushed lo : ℕ) (w : Wanted) → Doing (calls_of f e) (expr_code f pushed lo w e)
 
-binary_does : (f : Framed) (pushed lo : ℕ) (w : Wanted) (t : QTy) (op : BinaryOp) (a b : Typed) → Acts f a → Acts f b → (r : Option Relation)
+-- and those of its low byte
+abbrev LowActs : Framed → Typed → Type 0
+LowActs f e = (pushed lo : ℕ) → Doing (calls_of f e) (low_value_code f pushed lo e)
+
+binary_does : (f : Framed) (pushed lo : ℕ) (w : Wanted) (t : QTy) (op : BinaryOp) (a b : Typed) → Acts f a → Acts f b → LowActs f a → LowActs f b → (r : Option Relation)
     → Doing (calls_of f a ++ calls_of f b) (by_relation r (wanted w (width_in t) (operator_code f pushed lo Registers op a b)) (λ q. truth_by w lo (comparison_code f pushed (inner w lo) (aimed w lo) (sense w) op q a b)))
-binary_does f pushed lo w t op a b da db None v =
+binary_does f pushed lo w t op a b da db la lb None v =
     let operands : Operands = operands_of f (bare a) (bare b) in
     let how : Operating = operating_of f pushed op operands a b in
     wanted_does w (width_in t) (operator_does Registers how op operands (kind_in b) lo (operating_calls f pushed op operands a b) (da pushed (lo + 1) Value) (db (below_operand how pushed (waiting (width_of (computes operands)))) (lo + 1 + uses None a) Value) v)
-binary_does f pushed lo w t op a b da db (Some r) v =
+binary_does f pushed lo w t op a b da db la lb (Some r) v =
     let operands : Operands = operands_of f (bare a) (bare b) in
     let q : Relation = relation_by (sense w) r in
     let how : Comparing = comparing_of f pushed q (computes operands) a b in
     let to : ℕ = aimed w lo in
     let own : ℕ = inner w lo in
+    let below : ℕ = below_side how pushed (waiting (width_of (computes operands))) in
+    let behind : ℕ = own + 1 + uses (tested_by q b) a in
     truth_does w lo (comparison_does how op operands (kind_in b) (sense w) to own (comparing_calls f pushed q (computes operands) a b)
-    (da pushed (own + 1) (wanted_by (tested_by q b) to)) (db (below_side how pushed (waiting (width_of (computes operands)))) (own + 1 + uses (tested_by q b) a) (wanted_by (tested_by q a) to)) v)
+    (λ u. side_does (takes_low how) (la pushed (own + 1) u) (da pushed (own + 1) (wanted_by (tested_by q b) to) u)) (λ u. side_does (takes_low how) (lb below behind u) (db below behind (wanted_by (tested_by q a) to) u)) v)
 
 sum_base_does : (f : Framed) (pushed lo : ℕ) (d : Destination) (t : QTy) (op : BinaryOp) (a b : Typed) → Acts f a → Acts f b → (r : Option Relation) → Doing (calls_of f a ++ calls_of f b) (node_code f pushed lo Value t (binary op a b))
     → Doing (calls_of f a ++ calls_of f b) (by_relation r (operator_code f pushed lo d op a b) (λ q. node_code f pushed lo Value t (binary op a b) ++ arrived d))
@@ -350,7 +391,8 @@ mutual
   node_does f pushed lo w t (member e m) v = wanted_does w (width_in t) (does_behind (expr_does f pushed lo Value e v) (offset_still (offset_at (types_of f.parts.types) (bare e) m) v))
   node_does f pushed lo w t (load e) v =
       let access : Access = access_of (types_of f.parts.types) e in
-      load_does w (place_of f pushed e) access (base_does f pushed lo (destination_of access) e v)
+      element_does (element_at f e) (λ x. loaded_element w x (index_code f pushed lo e)) (λ x h. element_load_does w x (element_from f e x (λ y found. index_does f pushed lo e y found v) h))
+      (load_does w (place_of f pushed e) access (base_does f pushed lo (destination_of access) e v))
   node_does f pushed lo w t (address e) v = wanted_does w (width_in t) (expr_does f pushed lo Value e v)
   node_does f pushed lo w t (decay e) v = wanted_does w (width_in t) (expr_does f pushed lo Value e v)
   node_does f pushed lo w t (convert e) v =
@@ -362,7 +404,7 @@ mutual
   node_does f pushed lo w t (unary unary_ops.Plus e) v = unary_does w t unary_ops.Plus (width_of (kind_in e)) (expr_does f pushed lo Value e v)
   node_does f pushed lo w t (unary unary_ops.Deref e) v = unary_does w t unary_ops.Deref (width_of (kind_in e)) (expr_does f pushed lo Value e v)
   node_does f pushed lo w t (unary unary_ops.Address e) v = unary_does w t unary_ops.Address (width_of (kind_in e)) (expr_does f pushed lo Value e v)
-  node_does f pushed lo w t (binary op a b) v = binary_does f pushed lo w t op a b (λ p l u. expr_does f p l u a) (λ p l u. expr_does f p l u b) (relation_of op) v
+  node_does f pushed lo w t (binary op a b) v = binary_does f pushed lo w t op a b (λ p l u. expr_does f p l u a) (λ p l u. expr_does f p l u b) (λ p l. low_value_does f p l a) (λ p l. low_value_does f p l b) (relation_of op) v
   node_does f pushed lo w t (both a b) v =
       let straight : Bool = is_straight false (sense w) in
       let own : ℕ = inner w lo in
@@ -416,6 +458,30 @@ mutual
   pointer_base_does f pushed lo d (node t (address e)) v = base_does f pushed lo d e v
   pointer_base_does f pushed lo d (node t (decay e)) v = base_does f pushed lo d e v
   pointer_base_does f pushed lo d (node t n) v = does_behind (node_does f pushed lo Value t n v) (arrived_still d v)
+
+  pub low_value_does : (f : Framed) (pushed lo : ℕ) (e : Typed) (v : List ℕ) → Does (calls_of f e) v (low_value_code f pushed lo e) v
+  low_value_does f pushed lo (node t (convert e)) v =
+      low_does_by (byte_in f pushed (node t (convert e))) (λ d h. (byte_idle f pushed (node t (convert e)) d h).calls) (either_does (is_number (type_in t) && is_number (bare e)) (low_value_does f pushed lo e v) (node_does f pushed lo Value t (convert e) v))
+  low_value_does f pushed lo (node t (binary op a b)) v =
+      low_does_by (byte_in f pushed (node t (binary op a b))) (λ d h. (byte_idle f pushed (node t (binary op a b)) d h).calls)
+      (low_operand_does (low_operand f pushed op a b) (λ d. Label lo ∷ (low_value_code f pushed (lo + 1) a ++ first_byte_code op d))
+      (λ d h. left_alone (low_reads f pushed op a b d h).right.calls (does_line (Label lo) (λ w. refl) (does_behind (low_value_does f pushed (lo + 1) a v) ((first_quiet {ok = λ l. true} op d).still v))))
+      (node_does f pushed lo Value t (binary op a b) v))
+  low_value_does f pushed lo (node t (load e)) v =
+      low_does_by (byte_in f pushed (node t (load e))) (λ d h. (byte_idle f pushed (node t (load e)) d h).calls)
+      (element_does (element_at f e) (λ x. index_code f pushed lo e ++ element_byte_code x.0)
+      (λ x h. does_behind (element_from f e x (λ y found. index_does f pushed lo e y found v) h) ((element_byte_quiet {ok = λ l. true} x.0).still v))
+      (low_load_does (behind_pointer (place_of f pushed e) (access_of (types_of f.parts.types) e)) (base_does f pushed lo destinations.Pointer e v) (node_does f pushed lo Value t (load e) v)))
+  low_value_does f pushed lo (node t n) v = low_does_by (byte_in f pushed (node t n)) (λ d h. (byte_idle f pushed (node t n) d h).calls) (node_does f pushed lo Value t n v)
+
+  pub index_does : (f : Framed) (pushed lo : ℕ) (e : Typed) (x : Element) → element_of f e ≡ Some x → (v : List ℕ) → Does (calls_of f e) v (index_code f pushed lo e) v
+  index_does f pushed lo (node t (deref e)) x h v = sum_index_does f pushed lo e x h v
+  index_does f pushed lo (node t (member e m)) x h v = onward_from (offset_at (types_of f.parts.types) (bare e) m) (element_of f e) x (λ y found. index_does f pushed lo e y found v) h
+  index_does f pushed lo (node t _) x h v = absurd cc
+
+  sum_index_does : (f : Framed) (pushed lo : ℕ) (e : Typed) (x : Element) → sum_element f e ≡ Some x → (v : List ℕ) → Does (calls_of f e) v (sum_index_code f pushed lo e) v
+  sum_index_does f pushed lo (node t (binary op a b)) x h v = right_alone (sum_indexes f t op a b x h).array.calls (does_line (Label lo) (λ w. refl) (low_value_does f pushed (lo + 1) b v))
+  sum_index_does f pushed lo (node t _) x h v = absurd cc
 
   args_does : (f : Framed) (pushed lo : ℕ) (fast : Bool) (es : Nodes) (v : List ℕ) → Does (args_calls f es) v (args_code f pushed lo fast es) (passed f fast es ++ v)
   args_does f pushed lo fast none v = does_none

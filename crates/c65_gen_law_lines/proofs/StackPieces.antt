@@ -141,7 +141,7 @@ to_still : (w : Width) (from to : IntType) → Still (convert_to w from to)
 to_still Ax from to v = narrow_still to v
 to_still Eax from to v = widen_still from v
 
-convert_still : (from to : IntType) → Still (convert_code from to)
+pub convert_still : (from to : IntType) → Still (convert_code from to)
 convert_still from to v = to_still (width_of to) from to v
 
 pub conversion_still : (t : Ty) (from : IntType) → Still (conversion_code t from)

@@ -32,7 +32,7 @@ use Rattle.c65_genstmt.specs.declared.objects.Spot.TheVariants.{Bank, Soft, Data
 use Rattle.c65_geneffect.specs.Effects.{effect_code}
 use Rattle.c65_genstmt.specs.Jumps.{following, with_value, with_effect, with_test}
 use Rattle.c65_genstmt.specs.Objects.{spot_of, object_bytes, point_code, stored_code, with_copied, with_kept, with_zeros}
-use Rattle.c65_genstmt.specs.Stmts.{case_behind, with_label, with_jump, two_given, three_given, with_maybe, with_effects, with_guard, ways, default_way, with_stmt, with_stmts, with_cases}
+use Rattle.c65_genstmt.specs.Stmts.{case_behind, with_label, with_jump, two_given, three_given, with_maybe, with_effects, with_guard, ways, default_way, with_stmt, with_stmts, is_empty, with_way, with_cases}
 use Rattle.c65_gen_law_lines.specs.Stack.{Waiting, waiting_by, waits, calls_of, maybe_calls, statement_calls, statements_calls}
 use Rattle.c65_gen_law_lines.specs.Laws.{StatementsKeepTheStack}
 use Rattle.c65_gen_law_lines.proofs.StackPieces.{waits_append, Leaves, leaves_then, leaves_none, leaves_if, Still, stored_leaves}
@@ -80,6 +80,10 @@ label_keeps l d = still_lines d (Label l ∷ []) (one_label l)
 
 jump_keeps : (l : ℕ) (d : Drafted) → Keeps [] d (with_jump l d)
 jump_keeps l d = still_lines d (jump Jmp l ∷ []) (one_jump l)
+
+way_keeps : (at : Bool) (l : ℕ) (d : Drafted) → Keeps [] d (with_way at l d)
+way_keeps true l d = keeps_same
+way_keeps false l d = jump_keeps l d
 
 test_keeps : (f : Framed) (to : ℕ) (s : Bool) (e : Typed) (d : Drafted) → Keeps (calls_of f e) d (with_test f to s e d)
 test_keeps f to s e d = record { keeps = λ start v rest h. waits_append d.lines (expr_code f 0 d.labels (Test to s) e) start ∙ (ap (λ w. waits w (expr_code f 0 d.labels (Test to s) e)) h ∙ expressions_keep_the_stack f 0 d.labels (Test to s) e v rest) }
@@ -215,11 +219,11 @@ mutual
   stmt_keeps f w l (if_stmt e a b) d =
       let m1 : Drafted = with_test f d.labels false e (two_given d) in
       let m2 : Drafted = with_stmt f w l a m1 in
-      let m3 : Drafted = with_jump (d.labels + 1) m2 in
+      let m3 : Drafted = with_way (is_empty b) (d.labels + 1) m2 in
       let m4 : Drafted = with_label d.labels m3 in
       let m5 : Drafted = with_stmt f w (case_behind l a) b m4 in
       given_keeps {e = two_given d} refl (keeps_then (test_keeps f d.labels false e (two_given d)) (keeps_then (stmt_keeps f w l a m1)
-      (keeps_before (jump_keeps (d.labels + 1) m2) (keeps_before (label_keeps d.labels m3) (keeps_behind (stmt_keeps f w (case_behind l a) b m4) (label_keeps (d.labels + 1) m5))))))
+      (keeps_before (way_keeps (is_empty b) (d.labels + 1) m2) (keeps_before (label_keeps d.labels m3) (keeps_behind (stmt_keeps f w (case_behind l a) b m4) (label_keeps (d.labels + 1) m5))))))
   stmt_keeps f w l (while e a) d =
       let m1 : Drafted = with_label d.labels (two_given d) in
       let m2 : Drafted = with_test f (d.labels + 1) false e m1 in

@@ -30,7 +30,7 @@ use Rattle.c65_genstmt.specs.declared.objects.Spot.TheVariants.{Bank, Soft, Data
 use Rattle.c65_genstmt.specs.Jumps.{following, with_value, with_test}
 use Rattle.c65_genstmt.specs.Objects.{spot_of, object_bytes, point_code, stored_code, with_copied, with_kept, with_set, with_zeros}
 use Rattle.c65_genstmt.specs.Cases.{has_default}
-use Rattle.c65_genstmt.specs.Stmts.{case_behind, with_label, with_jump, two_given, three_given, with_maybe, with_effects, with_guard, ways, default_way, with_stmt, with_stmts, with_cases}
+use Rattle.c65_genstmt.specs.Stmts.{case_behind, with_label, with_jump, two_given, three_given, with_maybe, with_effects, with_guard, ways, default_way, with_stmt, with_stmts, with_last, with_lasts, is_empty, with_way, with_cases}
 use Rattle.c65_gen_law_lines.specs.Labels.{times, is_within, among}
 use Rattle.c65_gen_law_lines.proofs.Made.{is_early, times-append, within, within_wider, among_inside, among_split, among_none, among_one, all_append}
 use Rattle.c65_gen_law_lines.proofs.Flat.{Flat, point_flat, stored_flat, bank_clear_flat, clear_own, copy_own}
@@ -148,6 +148,10 @@ pub guard_puts : (f : Framed) (to : ℕ) (e : MaybeTyped) (d : Drafted) → Puts
 guard_puts f to absent d = puts_end (puts_same d) (λ x. refl) (λ ok ex. tt)
 guard_puts f to (present e) d = puts_test f to false e d
 
+pub way_puts : (at : Bool) (d : Drafted) (l : ℕ) → Puts d (with_way at l d) no_others (Passes l)
+way_puts true d l = puts_end (puts_same d) (λ x. refl) (λ ok ex. tt)
+way_puts false d l = puts_jump d l
+
 -- the labels to which a statement may lead: where its jumps go, the end of the function, and labels of the function
 pub record Exits (w : Ways) (labels : List ℕ) (ok : ℕ → Bool) : Type 0 where
   pub behind : ok w.behind ≡ true
@@ -191,12 +195,12 @@ mutual
   stmt_puts u c f w l (if_stmt e a b) d h few =
       let m1 : Drafted = with_test f d.labels false e (two_given d) in
       let m2 : Drafted = with_stmt f w l a m1 in
-      let m3 : Drafted = with_jump (d.labels + 1) m2 in
+      let m3 : Drafted = with_way (is_empty b) (d.labels + 1) m2 in
       let m4 : Drafted = with_label d.labels m3 in
       let m5 : Drafted = with_stmt f w (case_behind l a) b m4 in
       let second : Puts m4 m5 (others w.other (case_behind l a) b) (Exits w c.labels) = stmt_puts u c f w (case_behind l a) b m4 h.2 few in
-      let first : Puts m1 m2 (others w.other l a) (Exits w c.labels) = stmt_puts u c f w l a m1 h.1 (omega (arith, second.grows, few)) in
-      two_labels (puts_then (puts_test f d.labels false e (two_given d)) (puts_then first (puts_then (puts_jump m2 (d.labels + 1)) (puts_then (puts_label m3 d.labels) (puts_then second (puts_label m5 (d.labels + 1)))))))
+      let first : Puts m1 m2 (others w.other l a) (Exits w c.labels) = stmt_puts u c f w l a m1 h.1 (omega (arith, second.grows, (way_puts (is_empty b) m2 (d.labels + 1)).grows, few)) in
+      two_labels (puts_then (puts_test f d.labels false e (two_given d)) (puts_then first (puts_then (way_puts (is_empty b) m2 (d.labels + 1)) (puts_then (puts_label m3 d.labels) (puts_then second (puts_label m5 (d.labels + 1)))))))
       (λ x. omega arith) (λ ok one two ex. (one, (ex, (two, (tt, (ex, tt))))))
   stmt_puts u c f w l (while e a) d h few =
       let m1 : Drafted = with_label d.labels (two_given d) in
@@ -259,3 +263,19 @@ mutual
       let m : Drafted = with_stmt f w l a d in
       let rest : Puts m (with_stmts f w (case_behind l a) ss m) (others_in w.other (case_behind l a) ss) (Exits w c.labels) = stmts_puts u c f w (case_behind l a) ss m h.1 few in
       puts_end (puts_then (stmt_puts u c f w l a d h.0 (omega (arith, rest.grows, few))) rest) (λ x. refl) (λ ok ex. (ex, ex))
+
+-- ---- what stands last
+
+mutual
+  pub last_puts : (u : UnitTy) (c : Context) (f : Framed) (w : Ways) (l : ℕ) (s : Stmt) (d : Drafted) → IsStmt u c s → (with_last f w l s d).labels ≤ 4294967296 → Puts d (with_last f w l s d) (others w.other l s) (Exits w c.labels)
+  last_puts u c f w l (block os ss) d h few = lasts_puts u c f w l ss d h.1 few
+  last_puts u c f w l (return e) d h few = puts_end (maybe_puts f e d) (λ x. refl) (λ ok ex. tt)
+  last_puts u c f w l a d h few = stmt_puts u c f w l a d h few
+
+  lasts_puts : (u : UnitTy) (c : Context) (f : Framed) (w : Ways) (l : ℕ) (ss : Stmts) (d : Drafted) → AreStmts u c ss → (with_lasts f w l ss d).labels ≤ 4294967296 → Puts d (with_lasts f w l ss d) (others_in w.other l ss) (Exits w c.labels)
+  lasts_puts u c f w l no_stmts d h few = puts_end (puts_same d) (λ x. refl) (λ ok ex. tt)
+  lasts_puts u c f w l (and_stmts a no_stmts) d h few = puts_end (last_puts u c f w l a d h.0 few) (λ x. omega arith) (λ ok ex. ex)
+  lasts_puts u c f w l (and_stmts a (and_stmts b ss)) d h few =
+      let m : Drafted = with_stmt f w l a d in
+      let rest : Puts m (with_lasts f w (case_behind l a) (and_stmts b ss) m) (others_in w.other (case_behind l a) (and_stmts b ss)) (Exits w c.labels) = lasts_puts u c f w (case_behind l a) (and_stmts b ss) m h.1 few in
+      puts_end (puts_then (stmt_puts u c f w l a d h.0 (omega (arith, rest.grows, few))) rest) (λ x. omega arith) (λ ok ex. (ex, ex))

@@ -53,7 +53,7 @@ use Rattle.c65_gen_law_lines.proofs.Directs.{loaded_quiet, compare_quiet, compar
 use Rattle.c65_gen_law_lines.proofs.FieldForms.{own_bits_piece}
 use Rattle.c65_gen_law_lines.proofs.Pointed.{arrived_piece, behind_pointer_piece, fetch_piece}
 use Rattle.c65_gen_law_lines.proofs.Drops.{IfRead, Unread, Unused}
-use Rattle.c65_gen_law_lines.proofs.Forms.{keep_quiet, stacked_sizes, form_quiet, waiting_part, stacked_part}
+use Rattle.c65_gen_law_lines.proofs.Forms.{keep_quiet, keep_byte_quiet, stacked_sizes, form_quiet, waiting_part, stacked_part}
 
 -- the same labels, from a number that is the same
 pub made_from : {outside : List ℕ} {lo to n k : ℕ} {a : List Line} → lo ≡ to → Made outside lo n k a → Made outside to n k a
@@ -63,7 +63,7 @@ made_from {outside = outside} {n = n} {k = k} {a = a} e made = subst (λ (x : �
 pub made_closed : {lo n k : ℕ} {a : List Line} → (outside : List ℕ) → Made [] lo n k a → Made outside lo n k a
 made_closed {lo = lo} {n = n} outside m = made_stretch (stretch_made m (leads_within outside lo n lo n (omega arith) (omega arith)) refl) (λ l. refl)
 
-sense_fits : (s : Bool) → is_early (Do (by_sense s) Relative (To 0)) ≡ true
+pub sense_fits : (s : Bool) → is_early (Do (by_sense s) Relative (To 0)) ≡ true
 sense_fits true = refl
 sense_fits false = refl
 
@@ -186,6 +186,8 @@ comparison_part na nb (comparing.Whole side.Right r is_signed sides) op operands
     stretch_wider (stretch_as (λ l. omega (arith, none_among la na l none)) (stretch_then q (compare_quiet r is_signed sides own to mine other).part)) (omega arith)
 comparison_part na nb (comparing.Held r is_signed) op operands right s to own la lb none mine other p q =
     stretch_wider (stretch_as (λ l. omega arith) (stretch_then p (stretch_then keep_quiet.part (stretch_then q (compare_quiet r is_signed (Word held_low held_high) own to mine other).part)))) (omega arith)
+comparison_part na nb (comparing.HeldByte r) op operands right s to own la lb none mine other p q =
+    stretch_wider (stretch_as (λ l. omega arith) (stretch_then (stretch_then p (stretch_then keep_byte_quiet.part (stretch_then q (compare_byte_quiet r held_low to other).part))) (stretch_label own))) (omega arith)
 comparison_part na nb comparing.Stacked op operands right s to own la lb none mine other p q =
     let result : Piece 1 (implied Tay ∷ []) = record { plain = refl; fit = refl; size = omega arith } in
     stretch_wider (stretch_as (λ l. omega arith) (stretch_then

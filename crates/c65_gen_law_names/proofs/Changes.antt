@@ -3,7 +3,7 @@ use Rattle.std.proofs.Common.{ℕ, ◌==◌}
 use Rattle.c65_base.specs.declared.operators.BinaryOp.{BinaryOp}
 use Rattle.c65_base.specs.declared.operators.BinaryOp.TheVariants as ops
 use Rattle.c65_mach.specs.declared.rows.Op.{Op}
-use Rattle.c65_mach.specs.declared.rows.Op.TheVariants.{Dec, Inc, Lda, Sta}
+use Rattle.c65_mach.specs.declared.rows.Op.TheVariants.{Adc, Dec, Inc, Lda, Sta}
 use Rattle.c65_genload.specs.declared.places.Extent.{Extent}
 use Rattle.c65_genload.specs.declared.places.Extent.TheVariants.{One, Two, Three, Four}
 use Rattle.c65_genload.specs.declared.places.Place.{Place}
@@ -20,8 +20,8 @@ use Rattle.c65_genchange.specs.declared.spots.Target.{Target}
 use Rattle.c65_genchange.specs.declared.spots.Target.TheVariants.{Byte, Word}
 use Rattle.c65_genchange.specs.declared.changes.Change.{Change}
 use Rattle.c65_genchange.specs.declared.changes.Change.TheVariants.{Up, Down, Number, Operand}
-use Rattle.c65_genchange.specs.Spots.{point_code, target_by, target_of, reach_code, again_code}
-use Rattle.c65_genchange.specs.Changes.{up_code, down_code, byte_code, first_code, next_code, is_neutral, skip_code, low_code, high_code, number_code, aside_code, taken_code, less_code, joined_code, more_code, operand_code, change_code, fill_code}
+use Rattle.c65_genchange.specs.Spots.{point_code, target_by, target_of, reach_code, again_code, is_next, beside_code}
+use Rattle.c65_genchange.specs.Changes.{up_code, down_code, byte_code, first_code, next_code, is_neutral, skip_code, low_code, high_code, is_one, carried_code, number_code, aside_code, taken_code, less_code, joined_code, more_code, operand_code, change_code, fill_code}
 use Rattle.c65_gen_law_lines.proofs.EffectFacts.{target_in, OfAny}
 use Rattle.c65_gen_law_names.proofs.Known.{AllKnown, known_if, known_more, known_none, known_then}
 use Rattle.c65_gen_law_names.proofs.Loads.{KnownPlace}
@@ -64,6 +64,9 @@ again_known P op (Behind pointer at) h = record { all = tt }
 again_known P op (Data sym at) h = record { all = (h, tt) }
 again_known P op (Zero at) h = record { all = tt }
 
+beside_known : (P : ℕ → Type 0) (op : Op) (low high : Spot) → KnownSpot P high → AllKnown P (beside_code op low high)
+beside_known P op low high h = known_if (is_next low high) (known_more tt (again_known P op high h)) (reach_known P op high h)
+
 -- ---- forms
 
 pub up_known : (P : ℕ → Type 0) (target : Target) (label : ℕ) → KnownTarget P target → AllKnown P (up_code target label)
@@ -96,10 +99,14 @@ high_known : (P : ℕ → Type 0) (op : BinaryOp) (m : ℕ) (spot : Spot) (label
 high_known P op m spot label h =
     known_if (is_neutral op m) known_none (known_then (skip_known P op m label) (next_known P op m spot h))
 
+carried_known : (P : ℕ → Type 0) (op : BinaryOp) (low high : Spot) (label : ℕ) → KnownSpot P high → AllKnown P (carried_code op low high label)
+carried_known P op low high label h = known_then (skip_known P op 0 label) (known_then (beside_known P Adc low high h) (again_known P Sta high h))
+
 number_known : (P : ℕ → Type 0) (op : BinaryOp) (m : ℕ) (target : Target) (label : ℕ) → KnownTarget P target → AllKnown P (number_code op m target label)
 number_known P op m (Byte low) label h = known_then (low_known P op (first m) low h) (label_one P label)
 number_known P op m (Word low high) label h =
-    known_then (low_known P op (first m) low h.0) (known_then (high_known P op (second m) high label h.1) (label_one P label))
+    known_if (is_one op m) (known_then (first_known P op 1 low h.0) (known_then (carried_known P op low high label h.1) (label_one P label)))
+    (known_then (low_known P op (first m) low h.0) (known_then (high_known P op (second m) high label h.1) (label_one P label)))
 
 taken_known : (P : ℕ → Type 0) (at : ℕ) (spot : Spot) → KnownSpot P spot → AllKnown P (taken_code at spot)
 taken_known P at spot h = known_more tt (again_known P Sta spot h)
@@ -135,4 +142,4 @@ point_known P (places.Near at) = known_none
 point_known P (places.Data s at) = known_none
 
 pub fill_known : (P : ℕ → Type 0) (m : ℕ) (low high : Spot) → KnownSpot P low → KnownSpot P high → AllKnown P (fill_code m low high)
-fill_known P m low high h k = known_more tt (known_then (reach_known P Sta low h) (reach_known P Sta high k))
+fill_known P m low high h k = known_more tt (known_then (reach_known P Sta low h) (beside_known P Sta low high k))

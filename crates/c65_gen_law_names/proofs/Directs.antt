@@ -147,7 +147,7 @@ carry_known P ops.Add = record { all = tt }
 carry_known P ops.Sub = record { all = tt }
 carry_known P _ = known_none
 
-first_byte_known : (P : ℕ → Type 0) (op : BinaryOp) (low : OperandByte) → KnownByte P low → AllKnown P (first_byte_code op low)
+pub first_byte_known : (P : ℕ → Type 0) (op : BinaryOp) (low : OperandByte) → KnownByte P low → AllKnown P (first_byte_code op low)
 first_byte_known P op low h = known_then (carry_known P op) (op_known P (instruction op) low h)
 
 both_bytes_known : (P : ℕ → Type 0) (op : BinaryOp) (low high : OperandByte) → KnownByte P low → KnownByte P high → AllKnown P (both_bytes_code op low high)

@@ -1,6 +1,6 @@
 -- The symbols of the lines of an expression.
 use Rattle.std.proofs.Common.{◌≡◌, ℕ, ◌+◌, ◌==◌, Bool, true, false, Option, None, Some, List, [], ◌∷◌, ◌++◌, refl, subst}
-use Rattle.std.specs.Prelude.{not, if◌then◌else◌}
+use Rattle.std.specs.Prelude.{◌&&◌, not, if◌then◌else◌}
 use Rattle.c65_base.specs.declared.operators.UnaryOp.TheVariants.{Not}
 use Rattle.c65_base.specs.declared.operators.BinaryOp.{BinaryOp}
 use Rattle.c65_ints.specs.declared.types.IntType.{IntType}
@@ -35,10 +35,10 @@ use Rattle.c65_genexpr.specs.Wanted as tests
 use Rattle.c65_genexpr.specs.declared.comparing.Comparing.{Comparing}
 use Rattle.c65_genexpr.specs.declared.operating.Operating.{Operating}
 use Rattle.c65_genexpr.specs.Direct.{kept_at, own_bytes}
-use Rattle.c65_genexpr.specs.Comparing.{relation_by, tested_by, comparing_of, below_side}
+use Rattle.c65_genexpr.specs.Comparing.{relation_by, tested_by, comparing_of, takes_low, below_side}
 use Rattle.c65_genexpr.specs.Operating.{operating_of, below_operand}
 use Rattle.c65_genexpr.specs.declared.destination.Destination.{Destination}
-use Rattle.c65_genexpr.specs.declared.destination.Destination.TheVariants.{Registers}
+use Rattle.c65_genexpr.specs.declared.destination.Destination.TheVariants.{Registers, Pointer}
 use Rattle.c65_genexpr.specs.declared.operands.Operands.{Operands}
 use Rattle.c65_genexpr.specs.declared.operands.Operands.TheVariants.{Numbers, PointerFirst}
 use Rattle.c65_genexpr.specs.declared.types.Outcome.{Outcome}
@@ -53,14 +53,18 @@ use Rattle.c65_genexpr.specs.Arguments.{is_fast, is_counted, stays, passed_size,
 use Rattle.c65_genexpr.specs.Calls.{named_in, named}
 use Rattle.c65_genexpr.specs.Uses.{by_relation, uses}
 use Rattle.c65_genfield.specs.Bits.{byte_field}
-use Rattle.c65_genexpr.specs.Code.{width_in, constant_code, tested_load, load_by, behind_open, compound, call_by, expr_code, node_code, base_code, pointer_base_code, args_code}
+use Rattle.c65_genexpr.specs.Code.{width_in, constant_code, tested_load, load_by, behind_open, compound, call_by, expr_code, node_code, base_code, pointer_base_code, low_value_code, index_code, sum_index_code, args_code}
+use Rattle.c65_gendirect.specs.Words.{first_byte_code}
+use Rattle.c65_genexpr.specs.Elements.{element_at, loaded_element, element_byte_code}
+use Rattle.c65_genexpr.specs.Lows.{is_number, byte_in, low_operand, behind_pointer}
 use Rattle.c65_gen_law_names.specs.Trees.{KnownNode, KnownTree, KnownTrees}
 use Rattle.c65_gen_law_names.proofs.Known.{AllKnown, known_if, known_more, known_none, known_then}
 use Rattle.c65_gen_law_names.proofs.Loads.{KnownPlace, bytes_known, copy_known, hold_known, narrow_known, number_known, offset_known, push_known, store_known, symbol_known, test_known}
 use Rattle.c65_gen_law_names.proofs.Places.{argument_known, close_known, conversion_known, direct_known, further_known, named_known, object_known, open_known, place_known, pointer_known, spill_known, unary_known}
-use Rattle.c65_gen_law_names.proofs.Directs.{KnownRead, byte_through_known, read_bytes_known, truth_known, word_through_known, zero_test_known}
+use Rattle.c65_gen_law_names.proofs.Directs.{KnownRead, byte_through_known, first_byte_known, read_bytes_known, truth_known, word_through_known, zero_test_known}
 use Rattle.c65_gen_law_names.proofs.Pointed.{arrived_known, fetch_known}
-use Rattle.c65_gen_law_names.proofs.Forms.{KnownStoring, byte_behind_known, comparing_known, comparison_known, keep_known, kept_known, operating_known, operator_known, own_known, storing_known, word_behind_known}
+use Rattle.c65_gen_law_names.proofs.Forms.{KnownStoring, byte_behind_known, comparing_known, comparison_known, keep_known, kept_known, low_known, operating_known, operator_known, own_known, storing_known, word_behind_known}
+use Rattle.c65_gen_law_names.proofs.Elements.{element_known, byte_in_known, operand_known, byte_of_known, loaded_known, element_or_known, operand_or_known, low_load_known}
 use Rattle.c65_gen_law_names.proofs.Fields.{loaded_test_known}
 use Rattle.c65_gen_law_names.proofs.Steps.{step_known}
 
@@ -178,7 +182,8 @@ mutual
   node_known P f pushed lo w t (member e m) h = wanted_known P w (width_in t) _ (known_then (expr_known P f pushed lo Value e h) (offset_known P (offset_at (types_of f.parts.types) (bare e) m)))
   node_known P f pushed lo w t (load e) h =
       let access : Access = access_of (types_of f.parts.types) e in
-      load_by_known P w (place_of f pushed e) access _ (place_known P f pushed e h) (base_known P f pushed lo (destination_of access) e h)
+      element_or_known P (element_at f e) (λ x. loaded_element w x (index_code f pushed lo e)) _ (element_known P f e h) (λ x s. loaded_known P w x _ s (index_known P f pushed lo e h))
+      (load_by_known P w (place_of f pushed e) access _ (place_known P f pushed e h) (base_known P f pushed lo (destination_of access) e h))
   node_known P f pushed lo w t (address e) h = wanted_known P w (width_in t) _ (expr_known P f pushed lo Value e h)
   node_known P f pushed lo w t (decay e) h = wanted_known P w (width_in t) _ (expr_known P f pushed lo Value e h)
   node_known P f pushed lo w t (convert e) h =
@@ -197,8 +202,11 @@ mutual
       let how : Comparing = comparing_of f pushed q (computes operands) a b in
       let to : ℕ = aimed w lo in
       let own : ℕ = inner w lo in
+      let next : ℕ = own + 1 + uses (tested_by q b) a in
+      let below : ℕ = below_side how pushed bytes in
       truth_by_known P w lo _ (comparison_known P how op operands (kind_in b) (sense w) to own _ _ (comparing_known P f pushed q (computes operands) a b h.0 h.1)
-      (expr_known P f pushed (own + 1) (wanted_by (tested_by q b) to) a h.0) (expr_known P f (below_side how pushed bytes) (own + 1 + uses (tested_by q b) a) (wanted_by (tested_by q a) to) b h.1)))
+      (known_if (takes_low how) (low_value_known P f pushed (own + 1) a h.0) (expr_known P f pushed (own + 1) (wanted_by (tested_by q b) to) a h.0))
+      (known_if (takes_low how) (low_value_known P f below next b h.1) (expr_known P f below next (wanted_by (tested_by q a) to) b h.1))))
   node_known P f pushed lo w t (both a b) h =
       let straight : Bool = is_straight false (sense w) in
       let own : ℕ = inner w lo in
@@ -260,6 +268,31 @@ mutual
   pointer_base_known P f pushed lo d (node t (address e)) h = base_known P f pushed lo d e h
   pointer_base_known P f pushed lo d (node t (decay e)) h = base_known P f pushed lo d e h
   pointer_base_known P f pushed lo d (node t n) h = known_then (node_known P f pushed lo Value t n h) (arrived_known P d)
+
+  low_value_known : (P : ℕ → Type 0) (f : Framed) (pushed lo : ℕ) (e : Typed) → KnownTree P f e → AllKnown P (low_value_code f pushed lo e)
+  low_value_known P f pushed lo (node t (convert e)) h =
+      low_known P (byte_in f pushed (node t (convert e))) _ (byte_in_known P f pushed (node t (convert e)) h)
+      (known_if (is_number (type_in t) && is_number (bare e)) (low_value_known P f pushed lo e h) (node_known P f pushed lo Value t (convert e) h))
+  low_value_known P f pushed lo (node t (binary op a b)) h =
+      low_known P (byte_in f pushed (node t (binary op a b))) _ (byte_in_known P f pushed (node t (binary op a b)) h)
+      (operand_or_known P (low_operand f pushed op a b) (λ d. Label lo ∷ (low_value_code f pushed (lo + 1) a ++ first_byte_code op d)) _ (operand_known P f pushed op a b h.1)
+      (λ d k. known_more tt (known_then (low_value_known P f pushed (lo + 1) a h.0) (first_byte_known P op d k)))
+      (node_known P f pushed lo Value t (binary op a b) h))
+  low_value_known P f pushed lo (node t (load e)) h =
+      low_known P (byte_in f pushed (node t (load e))) _ (byte_in_known P f pushed (node t (load e)) h)
+      (element_or_known P (element_at f e) (λ x. index_code f pushed lo e ++ element_byte_code x.0) _ (element_known P f e h)
+      (λ x s. known_then (index_known P f pushed lo e h) (byte_of_known P x.0 s))
+      (low_load_known P (behind_pointer (place_of f pushed e) (access_of (types_of f.parts.types) e)) _ _ (base_known P f pushed lo Pointer e h) (node_known P f pushed lo Value t (load e) h)))
+  low_value_known P f pushed lo (node t n) h = low_known P (byte_in f pushed (node t n)) _ (byte_in_known P f pushed (node t n) h) (node_known P f pushed lo Value t n h)
+
+  pub index_known : (P : ℕ → Type 0) (f : Framed) (pushed lo : ℕ) (e : Typed) → KnownTree P f e → AllKnown P (index_code f pushed lo e)
+  index_known P f pushed lo (node t (deref e)) h = sum_index_known P f pushed lo e h
+  index_known P f pushed lo (node t (member e m)) h = index_known P f pushed lo e h
+  index_known P f pushed lo (node t _) h = known_none
+
+  sum_index_known : (P : ℕ → Type 0) (f : Framed) (pushed lo : ℕ) (e : Typed) → KnownTree P f e → AllKnown P (sum_index_code f pushed lo e)
+  sum_index_known P f pushed lo (node t (binary op a b)) h = known_more tt (low_value_known P f pushed (lo + 1) b h.1)
+  sum_index_known P f pushed lo (node t _) h = known_none
 
   args_known : (P : ℕ → Type 0) (f : Framed) (pushed lo : ℕ) (fast : Bool) (es : Nodes) → KnownTrees P f es → AllKnown P (args_code f pushed lo fast es)
   args_known P f pushed lo fast none h = known_none

@@ -56,7 +56,7 @@ use Rattle.c65_genexpr.specs.Comparing.{tested_by, lowest, is_raised, raised, on
 use Rattle.c65_genexpr.specs.Operating.{sum_by, mask_by, number_form, offset_form, constant_form, pair_of, word_in, word_if, element_form, right_form, under_if, left_form, constant_right, direct_right, direct_left, by_left, by_right, operating_of, placed, value_form, pointed_word, pointed_form, form_code, waiting_code, stacked_code, operator_by, reading_of, is_light, held_elements, held_form, held_if}
 use Rattle.c65_genexpr.specs.Operating as operators
 use Rattle.c65_genexpr.specs.Comparing as comparisons
-use Rattle.c65_genexpr.specs.Held.{held_low, held_high, keep_code, byte_behind_code, word_behind_code}
+use Rattle.c65_genexpr.specs.Held.{held_low, held_high, keep_code, keep_byte_code, byte_behind_code, word_behind_code}
 use Rattle.c65_genexpr.specs.Wanted.{branch_code}
 use Rattle.c65_gen_law_names.specs.Trees.{KnownTree}
 use Rattle.c65_gen_law_names.proofs.Known.{AllKnown, known_more, known_none, known_then}
@@ -218,6 +218,7 @@ KnownComparing P (compared.Truth side) = Unit {0}
 KnownComparing P (compared.Byte side low r byte) = KnownMaybe P low × KnownByte P byte
 KnownComparing P (compared.Whole side r signed sides) = KnownSides P sides
 KnownComparing P (compared.Held r signed) = Unit {0}
+KnownComparing P (compared.HeldByte r) = Unit {0}
 KnownComparing P compared.Stacked = Unit {0}
 
 abbrev KnownSome : (ℕ → Type 0) → Option Sides → Type 0
@@ -258,7 +259,7 @@ lowest_known : (P : ℕ → Type 0) (sides : Sides) → KnownSides P sides → K
 lowest_known P (Word low high) h = h.0
 lowest_known P (Long d0 d1 d2 d3) h = h.0
 
-first_known : (P : ℕ → Type 0) (d : Option Direct) → KnownRead P d → KnownMaybe P (option_and_then (λ x. byte_of x 0) d)
+pub first_known : (P : ℕ → Type 0) (d : Option Direct) → KnownRead P d → KnownMaybe P (option_and_then (λ x. byte_of x 0) d)
 first_known P None h = tt
 first_known P (Some d) h = byte_known P d 0 h
 
@@ -286,29 +287,31 @@ beside_known P side r few kind first (Some d) h k =
 compared_known : (P : ℕ → Type 0) (r : Relation) (few : Bool) (kind : IntType) (pure : Bool) (a b : Option Direct) → KnownRead P a → KnownRead P b → KnownComparing P (compared_by r few kind pure a b)
 compared_known P r few kind pure a b h k = comparing_if P (changes kind pure a b) _ _ (beside_known P Right (mirrored r) few kind b a k h) (beside_known P Left r few kind a b h k)
 
-held_by_known : (P : ℕ → Type 0) (is : Bool) (w : Width) (r : Relation) (kind : IntType) → KnownComparing P (held_by is w r kind)
-held_by_known P true Ax r kind = tt
-held_by_known P true Eax r kind = tt
-held_by_known P false w r kind = tt
+held_by_known : (P : ℕ → Type 0) (is few : Bool) (w : Width) (r : Relation) (kind : IntType) → KnownComparing P (held_by is few w r kind)
+held_by_known P true true Ax r kind = tt
+held_by_known P true false Ax r kind = tt
+held_by_known P true few Eax r kind = tt
+held_by_known P false few w r kind = tt
 
 or_held_known : (P : ℕ → Type 0) (how held : Comparing) → KnownComparing P how → KnownComparing P held → KnownComparing P (comparisons.or_held how held)
 or_held_known P (compared.Truth side) held h k = h
 or_held_known P (compared.Byte side low r byte) held h k = h
 or_held_known P (compared.Whole side r signed sides) held h k = h
 or_held_known P (compared.Held r signed) held h k = h
+or_held_known P (compared.HeldByte r) held h k = h
 or_held_known P compared.Stacked held h k = k
 
 pub comparing_known : (P : ℕ → Type 0) (f : Framed) (pushed : ℕ) (r : Relation) (kind : IntType) (a b : Typed) → KnownTree P f a → KnownTree P f b → KnownComparing P (comparing_of f pushed r kind a b)
 comparing_known P f pushed r kind a b h k =
     comparing_if P (is_some (tested_by r b)) (compared.Truth Left) _ tt
     (comparing_if P (is_some (tested_by r a)) (compared.Truth Right) _ tt
-    (or_held_known P (compared_by r (is_byte a && is_byte b) kind (is_pure b) (direct_of f pushed a) (direct_of f pushed b)) _ (compared_known P r (is_byte a && is_byte b) kind (is_pure b) (direct_of f pushed a) (direct_of f pushed b) (read_known P f pushed a h) (read_known P f pushed b k)) (held_by_known P (is_light f pushed b) (width_of kind) r kind)))
+    (or_held_known P (compared_by r (is_byte a && is_byte b) kind (is_pure b) (direct_of f pushed a) (direct_of f pushed b)) _ (compared_known P r (is_byte a && is_byte b) kind (is_pure b) (direct_of f pushed a) (direct_of f pushed b) (read_known P f pushed a h) (read_known P f pushed b k)) (held_by_known P (is_light f pushed b) (is_byte a && is_byte b) (width_of kind) r kind)))
 
 on_known : (P : ℕ → Type 0) (side : Side) (a b : List Line) → AllKnown P a → AllKnown P b → AllKnown P (on side a b)
 on_known P Left a b h k = h
 on_known P Right a b h k = k
 
-low_known : (P : ℕ → Type 0) (byte : Option OperandByte) (lines : List Line) → KnownMaybe P byte → AllKnown P lines → AllKnown P (low_code byte lines)
+pub low_known : (P : ℕ → Type 0) (byte : Option OperandByte) (lines : List Line) → KnownMaybe P byte → AllKnown P lines → AllKnown P (low_code byte lines)
 low_known P None lines h k = k
 low_known P (Some byte) lines h k = op_known P _ byte h
 
@@ -321,12 +324,17 @@ word_behind_known P at = record { all = tt }
 pub keep_known : (P : ℕ → Type 0) → AllKnown P keep_code
 keep_known P = record { all = tt }
 
+keep_byte_known : (P : ℕ → Type 0) → AllKnown P keep_byte_code
+keep_byte_known P = record { all = tt }
+
 pub comparison_known : (P : ℕ → Type 0) (how : Comparing) (op : BinaryOp) (operands : Operands) (right : IntType) (s : Bool) (to own : ℕ) (a b : List Line) → KnownComparing P how → AllKnown P a → AllKnown P b → AllKnown P (comparison_by how op operands right s to own a b)
 comparison_known P (compared.Truth side) op operands right s to own a b h ha hb = labelled_known P own _ (on_known P side a b ha hb)
 comparison_known P (compared.Byte side first r byte) op operands right s to own a b h ha hb = labelled_known P own _ (known_then (low_known P first (on side a b) h.0 (on_known P side a b ha hb)) (compare_byte_known P r byte to h.1))
 comparison_known P (compared.Whole side r signed sides) op operands right s to own a b h ha hb = known_then (on_known P side a b ha hb) (compare_known P r signed sides own to h)
 comparison_known P (compared.Held r signed) op operands right s to own a b h ha hb =
     known_then ha (known_then {a = keep_code} (keep_known P) (known_then hb (compare_known P r signed (Word held_low held_high) own to (tt, tt))))
+comparison_known P (compared.HeldByte r) op operands right s to own a b h ha hb =
+    labelled_known P own _ (known_then ha (known_then {a = keep_byte_code} (keep_byte_known P) (known_then hb (compare_byte_known P r held_low to tt))))
 comparison_known P compared.Stacked op operands right s to own a b h ha hb =
     let last : AllKnown P (implied _ ∷ branch_code s to) = record { all = tt } in
     labelled_known P own _ (known_then ha (known_then (between_known P operands) (known_then hb (known_then (behind_known P op operands right) last))))
@@ -344,7 +352,7 @@ KnownForm P (forms.Indexed size low high) = KnownByte P low × KnownByte P high
 KnownForm P (forms.Distance size low high) = KnownByte P low × KnownByte P high
 KnownForm P (forms.DistanceUnder size low high) = KnownByte P low × KnownByte P high
 
-abbrev KnownForms : (ℕ → Type 0) → Option Form → Type 0
+abbrev pub KnownForms : (ℕ → Type 0) → Option Form → Type 0
 KnownForms P None = Unit {0}
 KnownForms P (Some form) = KnownForm P form
 
@@ -441,7 +449,7 @@ direct_left_known : (P : ℕ → Type 0) (op : BinaryOp) (operands : Operands) (
 direct_left_known P op operands None h = tt
 direct_left_known P op operands (Some d) h = taken_left P op operands (byte_of d 0) (byte_of d 1) (byte_known P d 0 h) (byte_known P d 1 h)
 
-constant_right_known : (P : ℕ → Type 0) (op : BinaryOp) (operands : Operands) (b : Typed) → KnownForms P (constant_right op operands b)
+pub constant_right_known : (P : ℕ → Type 0) (op : BinaryOp) (operands : Operands) (b : Typed) → KnownForms P (constant_right op operands b)
 constant_right_known P op operands (node t (constant z)) = constant_known P op operands (residue_of z)
 constant_right_known P op operands (node t _) = tt
 
@@ -492,7 +500,7 @@ placed_known P ops.Add l = known_none
 placed_known P ops.Sub l = known_none
 placed_known P _ l = record { all = tt }
 
-value_known : (P : ℕ → Type 0) (form : Form) (l : ℕ) → KnownForm P form → AllKnown P (value_form form l)
+pub value_known : (P : ℕ → Type 0) (form : Form) (l : ℕ) → KnownForm P form → AllKnown P (value_form form l)
 value_known P (forms.Sum m) l h = add_number_known P m l
 value_known P (forms.LongSum m) l h = labelled_known P l _ (add_long_known P m)
 value_known P (forms.Mask op m) l h = labelled_known P l _ (long_mask_known P op m)

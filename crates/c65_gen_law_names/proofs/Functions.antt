@@ -1,5 +1,6 @@
 -- The symbols of the lines of a program's functions.
-use Rattle.std.proofs.Common.{◌≡◌, ℕ, suc, ◌==◌, Bool, true, false, Option, Some, None, Result, Ok, Err, List, [], ◌∷◌, ◌++◌, refl, sym, ◌∙◌, subst}
+use Rattle.std.proofs.Common.{◌≡◌, ℕ, suc, ◌==◌, Bool, true, false, not, Option, Some, None, Result, Ok, Err, List, [], ◌∷◌, ◌++◌, refl, sym, ◌∙◌, subst}
+use Rattle.std.specs.Prelude.{◌&&◌}
 use Rattle.c65_base.specs.Answers.{Fault, ◌>>=◌}
 use Rattle.c65_csem.specs.declared.items.Parts.{Parts}
 use Rattle.c65_csem.specs.declared.items.TFunc.{TFunc}
@@ -14,13 +15,13 @@ use Rattle.c65_genwide.specs.Lines.{with_lines}
 use Rattle.c65_genentry.specs.Drafts.{with_labels}
 use Rattle.c65_genentry.specs.Entry.{entry_code}
 use Rattle.c65_genstmt.specs.Cases.{room_of}
-use Rattle.c65_genstmt.specs.Stmts.{with_label, ways, with_stmt}
+use Rattle.c65_genstmt.specs.Stmts.{with_label, ways, with_last, returns_last}
 use Rattle.c65_genstmt.specs.Functions.{gives_of, main_code, no_lines, with_function, segment_of, function_of}
 use Rattle.c65_genstmt.specs.Programs.{one_more, function_added, functions_from}
 use Rattle.c65_gen_law_names.specs.Trees.{KnownStmt}
 use Rattle.c65_gen_law_names.proofs.Known.{AllKnown, known_none, known_then}
 use Rattle.c65_gen_law_names.proofs.Entries.{end_known, entry_known}
-use Rattle.c65_gen_law_names.proofs.Stmts.{stmt_known}
+use Rattle.c65_gen_law_names.proofs.Stmts.{last_known}
 use Rattle.c65_gen_law_names.proofs.Lists.{Every, every_append}
 
 main_known : (P : ℕ → Type 0) (is_main : Bool) → AllKnown P (main_code is_main)
@@ -30,11 +31,12 @@ main_known P false = known_none
 pub body_known : (P : ℕ → Type 0) (f : Framed) (is_main : Bool) (body : Stmt) (out : RegSet) → KnownStmt P f body → AllKnown P (with_function f is_main (Some body) (no_lines out)).lines
 body_known P f is_main body out h =
     let entered : Drafted = with_lines (with_labels (room_of body) (with_labels 1 (no_lines out))) (entry_code f) in
-    let ran : Drafted = with_stmt f (ways 0 0 0) 0 body entered in
-    let mained : Drafted = with_lines ran (main_code is_main) in
+    let ran : Drafted = with_last f (ways 0 0 0) 0 body entered in
+    let first : Bool = is_main && not (returns_last body) in
+    let mained : Drafted = with_lines ran (main_code first) in
     let h0 : AllKnown P entered.lines = entry_known P f in
-    let h1 : AllKnown P ran.lines = stmt_known P f (ways 0 0 0) 0 body entered h h0 in
-    let h2 : AllKnown P mained.lines = known_then h1 (main_known P is_main) in
+    let h1 : AllKnown P ran.lines = last_known P f (ways 0 0 0) 0 body entered h h0 in
+    let h2 : AllKnown P mained.lines = known_then h1 (main_known P first) in
     let h3 : AllKnown P (with_label 0 mained).lines = known_then h2 (record { all = tt }) in
     known_then h3 (end_known P f)
 

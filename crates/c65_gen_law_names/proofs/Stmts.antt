@@ -1,5 +1,5 @@
 -- The symbols of the lines of statements.
-use Rattle.std.proofs.Common.{ℕ, ◌+◌, true, false, length}
+use Rattle.std.proofs.Common.{ℕ, ◌+◌, Bool, true, false, length}
 use Rattle.c65_csem.specs.Trees.{Typed, MaybeTyped, absent, present, Stmt, empty, eval, set_part, clear, block, if_stmt, while, do_while, for_loop, switch, case, default, label, goto, break, continue, return, Stmts, no_stmts, and_stmts}
 use Rattle.c65_csem.specs.Statements.{cases_of}
 use Rattle.c65_code.specs.Segments.{Drafted}
@@ -10,7 +10,7 @@ use Rattle.c65_genentry.specs.Drafts.{with_labels}
 use Rattle.c65_genstmt.specs.declared.jumps.Ways.{Ways}
 use Rattle.c65_genstmt.specs.Jumps.{following, with_value, with_test}
 use Rattle.c65_genstmt.specs.Objects.{spot_of, object_bytes}
-use Rattle.c65_genstmt.specs.Stmts.{case_behind, with_label, with_jump, two_given, three_given, with_maybe, with_effects, with_guard, ways, default_way, with_choice, with_stmt, with_stmts, with_cases}
+use Rattle.c65_genstmt.specs.Stmts.{case_behind, with_label, with_jump, two_given, three_given, with_maybe, with_effects, with_guard, ways, default_way, with_choice, with_stmt, with_stmts, with_last, with_lasts, is_empty, with_way, with_cases}
 use Rattle.c65_gen_law_names.specs.Trees.{KnownMaybeTree, KnownStmt, KnownStmts, KnownTree}
 use Rattle.c65_gen_law_names.proofs.Known.{AllKnown, known_then}
 use Rattle.c65_gen_law_names.proofs.Entries.{choice_known}
@@ -21,6 +21,10 @@ label_known P l d h = known_then h (record { all = tt })
 
 jump_known : (P : ℕ → Type 0) (l : ℕ) (d : Drafted) → AllKnown P d.lines → AllKnown P (with_jump l d).lines
 jump_known P l d h = known_then h (record { all = tt })
+
+way_known : (P : ℕ → Type 0) (at : Bool) (l : ℕ) (d : Drafted) → AllKnown P d.lines → AllKnown P (with_way at l d).lines
+way_known P true l d h = h
+way_known P false l d h = jump_known P l d h
 
 maybe_known : (P : ℕ → Type 0) (f : Framed) (e : MaybeTyped) (d : Drafted) → KnownMaybeTree P f e → AllKnown P d.lines → AllKnown P (with_maybe f e d).lines
 maybe_known P f absent d tree h = h
@@ -44,7 +48,7 @@ head_known P f e a d tree h =
     jump_known P (default_way a d.labels) c chosen
 
 mutual
-  pub stmt_known : (P : ℕ → Type 0) (f : Framed) (w : Ways) (l : ℕ) (s : Stmt) (d : Drafted) → KnownStmt P f s → AllKnown P d.lines → AllKnown P (with_stmt f w l s d).lines
+  stmt_known : (P : ℕ → Type 0) (f : Framed) (w : Ways) (l : ℕ) (s : Stmt) (d : Drafted) → KnownStmt P f s → AllKnown P d.lines → AllKnown P (with_stmt f w l s d).lines
   stmt_known P f w l empty d k h = h
   stmt_known P f w l (eval e) d k h = effect_put_known P f e d k h
   stmt_known P f w l (set_part i o e) d k h = set_known P f i o e d k.0 k.1 h
@@ -53,12 +57,12 @@ mutual
   stmt_known P f w l (if_stmt e a b) d k h =
       let m1 : Drafted = with_test f d.labels false e (two_given d) in
       let m2 : Drafted = with_stmt f w l a m1 in
-      let m3 : Drafted = with_jump (d.labels + 1) m2 in
+      let m3 : Drafted = with_way (is_empty b) (d.labels + 1) m2 in
       let m4 : Drafted = with_label d.labels m3 in
       let m5 : Drafted = with_stmt f w (case_behind l a) b m4 in
       let h1 : AllKnown P m1.lines = test_known P f d.labels false e (two_given d) k.0 h in
       let h2 : AllKnown P m2.lines = stmt_known P f w l a m1 k.1 h1 in
-      let h4 : AllKnown P m4.lines = label_known P d.labels m3 (jump_known P (d.labels + 1) m2 h2) in
+      let h4 : AllKnown P m4.lines = label_known P d.labels m3 (way_known P (is_empty b) (d.labels + 1) m2 h2) in
       label_known P (d.labels + 1) m5 (stmt_known P f w (case_behind l a) b m4 k.2 h4)
   stmt_known P f w l (while e a) d k h =
       let m1 : Drafted = with_label d.labels (two_given d) in
@@ -104,3 +108,16 @@ mutual
   stmts_known : (P : ℕ → Type 0) (f : Framed) (w : Ways) (l : ℕ) (ss : Stmts) (d : Drafted) → KnownStmts P f ss → AllKnown P d.lines → AllKnown P (with_stmts f w l ss d).lines
   stmts_known P f w l no_stmts d k h = h
   stmts_known P f w l (and_stmts a ss) d k h = stmts_known P f w (case_behind l a) ss (with_stmt f w l a d) k.1 (stmt_known P f w l a d k.0 h)
+
+-- ---- what stands last
+
+mutual
+  pub last_known : (P : ℕ → Type 0) (f : Framed) (w : Ways) (l : ℕ) (s : Stmt) (d : Drafted) → KnownStmt P f s → AllKnown P d.lines → AllKnown P (with_last f w l s d).lines
+  last_known P f w l (block os ss) d k h = lasts_known P f w l ss d k h
+  last_known P f w l (return e) d k h = maybe_known P f e d k h
+  last_known P f w l a d k h = stmt_known P f w l a d k h
+
+  lasts_known : (P : ℕ → Type 0) (f : Framed) (w : Ways) (l : ℕ) (ss : Stmts) (d : Drafted) → KnownStmts P f ss → AllKnown P d.lines → AllKnown P (with_lasts f w l ss d).lines
+  lasts_known P f w l no_stmts d k h = h
+  lasts_known P f w l (and_stmts a no_stmts) d k h = last_known P f w l a d k.0 h
+  lasts_known P f w l (and_stmts a (and_stmts b ss)) d k h = lasts_known P f w (case_behind l a) (and_stmts b ss) (with_stmt f w l a d) k.1 (stmt_known P f w l a d k.0 h)

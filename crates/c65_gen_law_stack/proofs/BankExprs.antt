@@ -1,6 +1,6 @@
 -- An expression writes nothing of regbank where no home is there.
-use Rattle.std.proofs.Common.{ℕ, ◌+◌, Bool, true, false, not, Option, None, Some, List, [], ◌∷◌, refl}
-use Rattle.std.specs.Prelude.{if◌then◌else◌, nat_le}
+use Rattle.std.proofs.Common.{ℕ, ◌+◌, Bool, true, false, not, Option, None, Some, List, [], ◌∷◌, ◌++◌, refl}
+use Rattle.std.specs.Prelude.{◌&&◌, if◌then◌else◌, nat_le}
 use Rattle.c65_base.specs.declared.operators.BinaryOp.{BinaryOp}
 use Rattle.c65_ints.specs.declared.types.IntType.{IntType}
 use Rattle.c65_ints.specs.declared.types.IntType.TheVariants.{UInt}
@@ -12,7 +12,7 @@ use Rattle.c65_mach.specs.declared.rows.Op.TheVariants.{Jmp, Lda}
 use Rattle.c65_mach.specs.declared.rows.Mode.TheVariants.{Absolute}
 use Rattle.c65_code.specs.declared.line.Operand.TheVariants.{To}
 use Rattle.c65_code.specs.declared.line.Line.{Line}
-use Rattle.c65_code.specs.declared.line.Line.TheVariants.{Do}
+use Rattle.c65_code.specs.declared.line.Line.TheVariants.{Label, Do}
 use Rattle.c65_code.specs.declared.routine.Width.{Width}
 use Rattle.c65_code.specs.declared.routine.Width.TheVariants.{Ax}
 use Rattle.c65_genframe.specs.declared.home.Home.{Home}
@@ -32,7 +32,7 @@ use Rattle.c65_gendirect.specs.declared.relation.Relation.{Relation}
 use Rattle.c65_gendirect.specs.Compare.{relation_of}
 use Rattle.c65_genshift.specs.Shifts.{labelled}
 use Rattle.c65_genexpr.specs.declared.destination.Destination.{Destination}
-use Rattle.c65_genexpr.specs.declared.destination.Destination.TheVariants.{Registers}
+use Rattle.c65_genexpr.specs.declared.destination.Destination.TheVariants.{Registers, Pointer}
 use Rattle.c65_genexpr.specs.declared.operands.Operands.{Operands}
 use Rattle.c65_genexpr.specs.declared.operands.Operands.TheVariants.{Numbers, PointerFirst, PointerLast, Pointers}
 use Rattle.c65_genexpr.specs.declared.operating.Operating.{Operating}
@@ -40,7 +40,7 @@ use Rattle.c65_genexpr.specs.declared.operating.Operating.TheVariants as operati
 use Rattle.c65_genexpr.specs.declared.comparing.Side.{Side}
 use Rattle.c65_genexpr.specs.declared.comparing.Side.TheVariants.{Left, Right}
 use Rattle.c65_genexpr.specs.declared.comparing.Comparing.{Comparing}
-use Rattle.c65_genexpr.specs.declared.comparing.Comparing.TheVariants.{Truth, Byte, Whole, Stacked, Held}
+use Rattle.c65_genexpr.specs.declared.comparing.Comparing.TheVariants.{Truth, Byte, Whole, Stacked, Held, HeldByte}
 use Rattle.c65_genexpr.specs.declared.storing.Storing.{Storing}
 use Rattle.c65_genexpr.specs.declared.storing.Storing.TheVariants as storing
 use Rattle.c65_genexpr.specs.declared.wanted.Wanted.{Wanted}
@@ -51,7 +51,7 @@ use Rattle.c65_genexpr.specs.Places.{more, has_base, added_bytes, sum_has_base, 
 use Rattle.c65_genexpr.specs.Wanted.{wanted_by, handed, wanted, sense, aimed, inner, truth_by, way, way_labels, joined}
 use Rattle.c65_genexpr.specs.Operands.{residue_of, constant_in, operands_of, computes, same_truth, conversion_by}
 use Rattle.c65_genexpr.specs.Direct.{kept_at, own_bytes}
-use Rattle.c65_genexpr.specs.Comparing.{relation_by, tested_by, comparing_of, on, low_code, below_side, comparison_by}
+use Rattle.c65_genexpr.specs.Comparing.{relation_by, tested_by, comparing_of, takes_low, on, low_code, below_side, comparison_by}
 use Rattle.c65_genexpr.specs.Held.{held_low, held_high}
 use Rattle.c65_genexpr.specs.Operating.{operating_of, waiting_code, stacked_code, below_operand, operator_by}
 use Rattle.c65_genexpr.specs.Destination.{destination_of}
@@ -61,14 +61,20 @@ use Rattle.c65_genexpr.specs.Arguments.{is_fast, is_counted, stays, passed_size,
 use Rattle.c65_genexpr.specs.Calls.{named}
 use Rattle.c65_genexpr.specs.Uses.{uses, by_relation}
 use Rattle.c65_genfield.specs.Bits.{byte_field}
-use Rattle.c65_genexpr.specs.Code.{width_in, tested_load, load_by, behind_open, compound, call_by, expr_code, node_code, base_code, pointer_base_code, args_code}
+use Rattle.c65_genexpr.specs.Code.{width_in, tested_load, load_by, behind_open, compound, call_by, expr_code, node_code, base_code, pointer_base_code, low_value_code, index_code, sum_index_code, args_code}
+use Rattle.c65_genexpr.specs.declared.elements.Element.{Element}
+use Rattle.c65_genexpr.specs.Elements.{element_at, element_or, loaded_element, element_byte_code}
+use Rattle.c65_genexpr.specs.Lows.{is_number, byte_in, low_operand, low_operand_or, behind_pointer, low_load_by}
+use Rattle.c65_gendirect.specs.Words.{first_byte_code}
+use Rattle.c65_genload.specs.declared.places.Extent.TheVariants.{One as one_byte}
+use Rattle.c65_gen_law_stack.proofs.EvenElements.{keep_byte_even, element_value_even, element_test_even, element_byte_even}
 use Rattle.c65_gen_law_stack.proofs.FrameOrder.{NotBank}
 use Rattle.c65_gen_law_stack.proofs.EvenLines.{No, One}
 use Rattle.c65_gen_law_stack.proofs.EvenShifts.{elements_even}
-use Rattle.c65_gen_law_stack.proofs.EvenDirects.{byte_even, compare_even, compare_byte_even, zero_test_even, truth_even}
+use Rattle.c65_gen_law_stack.proofs.EvenDirects.{byte_even, first_even, compare_even, compare_byte_even, zero_test_even, truth_even}
 use Rattle.c65_gen_law_stack.proofs.EvenForms.{loaded_test_even, value_test_even, routine_test_even, constant_even, form_even, keep_even}
 use Rattle.c65_gen_law_stack.proofs.StepClears.{step_clear}
-use Rattle.c65_gen_law_stack.proofs.BankPieces.{narrow_clear, label_clear, byte_behind_clear, word_behind_clear, read_bytes_clear, byte_through_clear, word_through_clear, Clear, clear_then, clear_if, clear_none, IsOff, symbol_clear, offset_clear, object_clear, further_clear, conversion_clear, push_clear, argument_clear, hold_clear, bytes_clear, arrived_clear, fetch_clear, store_clear, copy_clear, spill_clear, unary_clear, wide_clear, between_clear, behind_clear, open_clear, close_clear, named_clear, direct_clear, pointer_clear}
+use Rattle.c65_gen_law_stack.proofs.BankPieces.{behind_pointer_clear, narrow_clear, label_clear, byte_behind_clear, word_behind_clear, read_bytes_clear, byte_through_clear, word_through_clear, Clear, clear_then, clear_if, clear_none, IsOff, symbol_clear, offset_clear, object_clear, further_clear, conversion_clear, push_clear, argument_clear, hold_clear, bytes_clear, arrived_clear, fetch_clear, store_clear, copy_clear, spill_clear, unary_clear, wide_clear, between_clear, behind_clear, open_clear, close_clear, named_clear, direct_clear, pointer_clear}
 
 -- no home of a frame is in regbank
 abbrev pub IsBankless : Framed → Type 0
@@ -179,6 +185,7 @@ comparison_clear (Truth side) op operands right s to m ca cb = labelled_clear m 
 comparison_clear (Byte side low r d) op operands right s to m ca cb = labelled_clear m (clear_then (low_clear low (side_clear side ca cb)) (compare_byte_even {X = One to} r d to refl).clear)
 comparison_clear (Whole side r is_signed sides) op operands right s to m ca cb = clear_then (side_clear side ca cb) (compare_even {X = One to} r is_signed sides m to refl).clear
 comparison_clear (Held r is_signed) op operands right s to m ca cb = clear_then ca (clear_then (keep_even {X = No}).clear (clear_then cb (compare_even {X = One to} r is_signed (Word held_low held_high) m to refl).clear))
+comparison_clear (HeldByte r) op operands right s to m ca cb = labelled_clear m (clear_then ca (clear_then (keep_byte_even {X = No}).clear (clear_then cb (compare_byte_even {X = One to} r held_low to refl).clear)))
 comparison_clear Stacked op operands right s to m ca cb = labelled_clear m (clear_then ca (clear_then (between_clear operands) (clear_then cb (clear_then (behind_clear op operands right) (routine_test_even {X = One to} s to refl).clear))))
 
 relation_clear : (o : Option Relation) {other : List Line} {f : Relation → List Line} → Clear other → ((r : Relation) → Clear (f r)) → Clear (by_relation o other f)
@@ -207,6 +214,24 @@ assigned_clear (storing.HeldByte at) place access off ca cb = clear_then ca (cle
 assigned_clear (storing.HeldWord at) place access off ca cb = clear_then ca (clear_then (keep_even {X = No}).clear (clear_then cb (word_behind_clear at)))
 assigned_clear storing.Stacked place access off ca cb = clear_then ca (clear_then (hold_clear place) (clear_then cb (store_clear place access off)))
 
+-- ---- elements and low bytes
+
+element_load_clear : {index : List Line} (w : Wanted) (x : Element × IntType) → Clear index → Clear (loaded_element w x index)
+element_load_clear Value x c = clear_then c (element_value_even {X = No} x.0 x.1).clear
+element_load_clear (Test to s) x c = clear_then c (element_test_even {X = One to} x.0 x.1 s to refl).clear
+
+element_clear : {whole : List Line} (o : Option (Element × IntType)) (code : Element × IntType → List Line) → ((x : Element × IntType) → Clear (code x)) → Clear whole → Clear (element_or o code whole)
+element_clear None code c d = d
+element_clear (Some x) code c d = c x
+
+low_operand_clear : {whole : List Line} (o : Option OperandByte) (code : OperandByte → List Line) → ((d : OperandByte) → Clear (code d)) → Clear whole → Clear (low_operand_or o code whole)
+low_operand_clear None code c d = d
+low_operand_clear (Some x) code c d = c x
+
+low_load_clear : {base other : List Line} (o : Option ℕ) → Clear base → Clear other → Clear (low_load_by o base other)
+low_load_clear None c d = d
+low_load_clear (Some at) c d = clear_then c (behind_pointer_clear at one_byte)
+
 jump_clear : (l : ℕ) → Clear (Do Jmp Absolute (To l) ∷ [])
 jump_clear l = record { all = refl }
 
@@ -224,7 +249,8 @@ mutual
   node_clear f pushed lo w t (member e m) k = wanted_clear w (width_in t) (clear_then (expr_clear f pushed lo Value e k) (offset_clear (offset_at (types_of f.parts.types) (bare e) m)))
   node_clear f pushed lo w t (load e) k =
       let access : Access = access_of (types_of f.parts.types) e in
-      load_by_clear w (place_of f pushed e) access (base_clear f pushed lo (destination_of access) e k)
+      element_clear (element_at f e) (λ x. loaded_element w x (index_code f pushed lo e)) (λ x. element_load_clear w x (index_clear f pushed lo e k))
+      (load_by_clear w (place_of f pushed e) access (base_clear f pushed lo (destination_of access) e k))
   node_clear f pushed lo w t (address e) k = wanted_clear w (width_in t) (expr_clear f pushed lo Value e k)
   node_clear f pushed lo w t (decay e) k = wanted_clear w (width_in t) (expr_clear f pushed lo Value e k)
   node_clear f pushed lo w t (convert e) k =
@@ -243,7 +269,10 @@ mutual
       let how : Comparing = comparing_of f pushed q (computes operands) a b in
       let to : ℕ = aimed w lo in
       let own : ℕ = inner w lo in
-      truth_clear w lo (comparison_clear how op operands (kind_in b) (sense w) to own (expr_clear f pushed (own + 1) (wanted_by (tested_by q b) to) a k) (expr_clear f (below_side how pushed bytes) (own + 1 + uses (tested_by q b) a) (wanted_by (tested_by q a) to) b k)))
+      let next : ℕ = own + 1 + uses (tested_by q b) a in
+      let below : ℕ = below_side how pushed bytes in
+      truth_clear w lo (comparison_clear how op operands (kind_in b) (sense w) to own (clear_if (takes_low how) (low_value_clear f pushed (own + 1) a k) (expr_clear f pushed (own + 1) (wanted_by (tested_by q b) to) a k))
+      (clear_if (takes_low how) (low_value_clear f below next b k) (expr_clear f below next (wanted_by (tested_by q a) to) b k))))
   node_clear f pushed lo w t (both a b) k =
       let straight : Bool = not (sense w) in
       let own : ℕ = inner w lo in
@@ -296,6 +325,27 @@ mutual
   pointer_base_clear f pushed lo d (node t (address e)) k = base_clear f pushed lo d e k
   pointer_base_clear f pushed lo d (node t (decay e)) k = base_clear f pushed lo d e k
   pointer_base_clear f pushed lo d (node t n) k = clear_then (node_clear f pushed lo Value t n k) (arrived_clear d)
+
+  low_value_clear : (f : Framed) (pushed lo : ℕ) (e : Typed) → IsBankless f → Clear (low_value_code f pushed lo e)
+  low_value_clear f pushed lo (node t (convert e)) k = low_clear (byte_in f pushed (node t (convert e))) (clear_if (is_number (type_in t) && is_number (bare e)) (low_value_clear f pushed lo e k) (node_clear f pushed lo Value t (convert e) k))
+  low_value_clear f pushed lo (node t (binary op a b)) k =
+      low_clear (byte_in f pushed (node t (binary op a b)))
+      (low_operand_clear (low_operand f pushed op a b) (λ d. Label lo ∷ (low_value_code f pushed (lo + 1) a ++ first_byte_code op d))
+      (λ d. clear_then (label_clear lo) (clear_then (low_value_clear f pushed (lo + 1) a k) (first_even {X = No} op d).clear)) (node_clear f pushed lo Value t (binary op a b) k))
+  low_value_clear f pushed lo (node t (load e)) k =
+      low_clear (byte_in f pushed (node t (load e)))
+      (element_clear (element_at f e) (λ x. index_code f pushed lo e ++ element_byte_code x.0) (λ x. clear_then (index_clear f pushed lo e k) (element_byte_even {X = No} x.0).clear)
+      (low_load_clear (behind_pointer (place_of f pushed e) (access_of (types_of f.parts.types) e)) (base_clear f pushed lo Pointer e k) (node_clear f pushed lo Value t (load e) k)))
+  low_value_clear f pushed lo (node t n) k = low_clear (byte_in f pushed (node t n)) (node_clear f pushed lo Value t n k)
+
+  pub index_clear : (f : Framed) (pushed lo : ℕ) (e : Typed) → IsBankless f → Clear (index_code f pushed lo e)
+  index_clear f pushed lo (node t (deref e)) k = sum_index_clear f pushed lo e k
+  index_clear f pushed lo (node t (member e m)) k = index_clear f pushed lo e k
+  index_clear f pushed lo (node t _) k = clear_none
+
+  sum_index_clear : (f : Framed) (pushed lo : ℕ) (e : Typed) → IsBankless f → Clear (sum_index_code f pushed lo e)
+  sum_index_clear f pushed lo (node t (binary op a b)) k = clear_then (label_clear lo) (low_value_clear f pushed (lo + 1) b k)
+  sum_index_clear f pushed lo (node t _) k = clear_none
 
   args_clear : (f : Framed) (pushed lo : ℕ) (fast : Bool) (es : Nodes) → IsBankless f → Clear (args_code f pushed lo fast es)
   args_clear f pushed lo fast none k = clear_none

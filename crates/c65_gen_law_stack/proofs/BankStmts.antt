@@ -1,6 +1,6 @@
 -- The lines of a function write nothing of regbank where it takes nothing of it.
-use Rattle.std.proofs.Common.{◌≡◌, ℕ, zero, suc, ◌+◌, ◌/◌, ◌%◌, ◌==◌, Bool, true, false, Option, None, Some, ℤ, List, [], ◌∷◌, length, refl, sym, ap, subst}
-use Rattle.std.specs.Prelude.{if◌then◌else◌, nat_lt, nat_le}
+use Rattle.std.proofs.Common.{◌≡◌, ℕ, zero, suc, ◌+◌, ◌/◌, ◌%◌, ◌==◌, Bool, true, false, not, Option, None, Some, ℤ, List, [], ◌∷◌, length, refl, sym, ap, subst}
+use Rattle.std.specs.Prelude.{◌&&◌, if◌then◌else◌, nat_lt, nat_le}
 use Rattle.c65_csem.specs.Trees.{Typed, MaybeTyped, absent, present, Stmt, empty, eval, set_part, clear, block, if_stmt, while, do_while, for_loop, switch, case, default, label, goto, break, continue, return, Stmts, no_stmts, and_stmts}
 use Rattle.c65_csem.specs.Places.{is_tag}
 use Rattle.c65_csem.specs.Statements.{cases_of}
@@ -40,7 +40,7 @@ use Rattle.c65_genstmt.specs.declared.objects.Spot.TheVariants.{Bank, Soft, Data
 use Rattle.c65_genstmt.specs.Jumps.{following, with_value, with_effect, with_test}
 use Rattle.c65_genstmt.specs.Objects.{spot_at, spot_of, object_bytes, point_code, stored_code, with_copied, with_kept, with_zeros}
 use Rattle.c65_genstmt.specs.Cases.{room_of}
-use Rattle.c65_genstmt.specs.Stmts.{case_behind, with_label, with_jump, two_given, three_given, with_maybe, with_effects, with_guard, ways, default_way, with_stmt, with_stmts, with_cases}
+use Rattle.c65_genstmt.specs.Stmts.{case_behind, with_label, with_jump, two_given, three_given, with_maybe, with_effects, with_guard, ways, default_way, with_stmt, with_stmts, with_last, with_lasts, returns_last, is_empty, with_way, with_cases}
 use Rattle.c65_genstmt.specs.Functions.{main_code, no_lines}
 use Rattle.c65_gen_law_stack.specs.Bank.{FunctionsLeaveRegbank}
 use Rattle.c65_gen_law_stack.proofs.EntryWay.{IsOrderly}
@@ -122,6 +122,10 @@ tested_kept f to s e d b c = clear_then c (expr_clear f 0 d.labels (Test to s) e
 jmp : (l : ℕ) → Clear (jump Jmp l ∷ [])
 jmp l = record { all = refl }
 
+way_kept : (at : Bool) (l : ℕ) (d : Drafted) → Clear d.lines → Clear (with_way at l d).lines
+way_kept true l d c = c
+way_kept false l d c = clear_then c (jmp l)
+
 maybe_kept : (f : Framed) (e : MaybeTyped) (d : Drafted) → IsBankless f → Clear d.lines → Clear (with_maybe f e d).lines
 maybe_kept f absent d b c = c
 maybe_kept f (present e) d b c = value_kept f e d b c
@@ -182,10 +186,10 @@ mutual
   stmt_kept f w l (if_stmt e x y) d b c =
       let m1 : Drafted = with_test f d.labels false e (two_given d) in
       let m2 : Drafted = with_stmt f w l x m1 in
-      let m3 : Drafted = with_jump (d.labels + 1) m2 in
+      let m3 : Drafted = with_way (is_empty y) (d.labels + 1) m2 in
       let m4 : Drafted = with_label d.labels m3 in
       let c2 : Clear m2.lines = stmt_kept f w l x m1 b (tested_kept f d.labels false e (two_given d) b c) in
-      clear_then (stmt_kept f w (case_behind l x) y m4 b (clear_then (clear_then c2 (jmp (d.labels + 1))) (label_clear d.labels))) (label_clear (d.labels + 1))
+      clear_then (stmt_kept f w (case_behind l x) y m4 b (clear_then (way_kept (is_empty y) (d.labels + 1) m2 c2) (label_clear d.labels))) (label_clear (d.labels + 1))
   stmt_kept f w l (while e x) d b c =
       let m1 : Drafted = with_label d.labels (two_given d) in
       let m2 : Drafted = with_test f (d.labels + 1) false e m1 in
@@ -223,6 +227,17 @@ mutual
   stmts_kept : (f : Framed) (w : Ways) (l : ℕ) (ss : Stmts) (d : Drafted) → IsBankless f → Clear d.lines → Clear (with_stmts f w l ss d).lines
   stmts_kept f w l no_stmts d b c = c
   stmts_kept f w l (and_stmts x ss) d b c = stmts_kept f w (case_behind l x) ss (with_stmt f w l x d) b (stmt_kept f w l x d b c)
+
+mutual
+  last_kept : (f : Framed) (w : Ways) (l : ℕ) (s : Stmt) (d : Drafted) → IsBankless f → Clear d.lines → Clear (with_last f w l s d).lines
+  last_kept f w l (block os ss) d b c = lasts_kept f w l ss d b c
+  last_kept f w l (return e) d b c = maybe_kept f e d b c
+  last_kept f w l x d b c = stmt_kept f w l x d b c
+
+  lasts_kept : (f : Framed) (w : Ways) (l : ℕ) (ss : Stmts) (d : Drafted) → IsBankless f → Clear d.lines → Clear (with_lasts f w l ss d).lines
+  lasts_kept f w l no_stmts d b c = c
+  lasts_kept f w l (and_stmts x no_stmts) d b c = last_kept f w l x d b c
+  lasts_kept f w l (and_stmts x (and_stmts y ss)) d b c = lasts_kept f w (case_behind l x) (and_stmts y ss) (with_stmt f w l x d) b (stmt_kept f w l x d b c)
 
 -- ---- entry and end
 
@@ -303,5 +318,5 @@ functions_leave_regbank parts modes g body f is_main out framed nothing =
     let o : IsOrderly f = frames_are_orderly parts modes g f framed in
     let b : IsBankless f = frames_without_bank parts modes g f framed nothing in
     let d : Drafted = with_lines (with_labels (room_of body) (with_labels 1 (no_lines out))) (entry_code f) in
-    let all : Clear (with_stmt f (ways 0 0 0) 0 body d).lines = stmt_kept f (ways 0 0 0) 0 body d b (entry_clear f o nothing) in
-    (clear_then (clear_then (clear_then all (main_clear is_main)) (label_clear 0)) (end_clear f nothing)).all
+    let all : Clear (with_last f (ways 0 0 0) 0 body d).lines = last_kept f (ways 0 0 0) 0 body d b (entry_clear f o nothing) in
+    (clear_then (clear_then (clear_then all (main_clear (is_main && not (returns_last body)))) (label_clear 0)) (end_clear f nothing)).all

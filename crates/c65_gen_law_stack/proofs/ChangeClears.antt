@@ -2,7 +2,7 @@
 use Rattle.std.proofs.Common.{ℕ, ◌==◌, [], ◌∷◌, refl}
 use Rattle.c65_base.specs.declared.operators.BinaryOp.{BinaryOp}
 use Rattle.c65_base.specs.declared.operators.BinaryOp.TheVariants as ops
-use Rattle.c65_mach.specs.declared.rows.Op.TheVariants.{Bne, Dec, Inc, Lda, Sbc, Sec, Sta, Txa}
+use Rattle.c65_mach.specs.declared.rows.Op.TheVariants.{Adc, Bne, Dec, Inc, Iny, Lda, Sbc, Sec, Sta, Txa}
 use Rattle.c65_genwide.specs.Lines.{value}
 use Rattle.c65_genload.specs.declared.places.Extent.{Extent}
 use Rattle.c65_genload.specs.declared.places.Extent.TheVariants.{One, Two, Three, Four}
@@ -20,8 +20,8 @@ use Rattle.c65_genchange.specs.declared.spots.Target.{Target}
 use Rattle.c65_genchange.specs.declared.spots.Target.TheVariants.{Byte, Word}
 use Rattle.c65_genchange.specs.declared.changes.Change.{Change}
 use Rattle.c65_genchange.specs.declared.changes.Change.TheVariants.{Up, Down, Number, Operand}
-use Rattle.c65_genchange.specs.Spots.{point_code, target_by, target_of, reach_code, again_code}
-use Rattle.c65_genchange.specs.Changes.{up_code, down_code, byte_code, first_code, next_code, is_neutral, skip_code, low_code, high_code, number_code, aside_code, taken_code, less_code, joined_code, more_code, operand_code, change_code, fill_code}
+use Rattle.c65_genchange.specs.Spots.{point_code, target_by, target_of, reach_code, again_code, is_next}
+use Rattle.c65_genchange.specs.Changes.{up_code, down_code, byte_code, first_code, next_code, is_neutral, skip_code, low_code, high_code, is_one, carried_code, number_code, aside_code, taken_code, less_code, joined_code, more_code, operand_code, change_code, fill_code}
 use Rattle.c65_gen_law_lines.proofs.EffectFacts.{target_in, OfAny}
 use Rattle.c65_gen_law_stack.proofs.BankPieces.{Clear, clear_then, clear_if, clear_none, label_clear, IsOff}
 
@@ -59,6 +59,16 @@ pub put_clear : (spot : Spot) → IsOffByte spot → Clear (reach_code Sta spot)
 put_clear (Behind pointer at) off = record { all = refl }
 put_clear (Data sym at) off = record { all = refl }
 put_clear (Zero at) off = absurd off
+
+adc_reach : (spot : Spot) → Clear (reach_code Adc spot)
+adc_reach (Behind pointer at) = record { all = refl }
+adc_reach (Data sym at) = record { all = refl }
+adc_reach (Zero at) = record { all = refl }
+
+adc_again : (spot : Spot) → Clear (again_code Adc spot)
+adc_again (Behind pointer at) = record { all = refl }
+adc_again (Data sym at) = record { all = refl }
+adc_again (Zero at) = record { all = refl }
 
 reach_add : (op : BinaryOp) (spot : Spot) → IsOffByte spot → Clear (reach_code (instruction op) spot)
 reach_add ops.Add (Behind pointer at) off = record { all = refl }
@@ -119,9 +129,16 @@ skip_clear _ n label = clear_none
 high_clear : (op : BinaryOp) (n : ℕ) (spot : Spot) (label : ℕ) → IsOffByte spot → Clear (high_code op n spot label)
 high_clear op n spot label off = clear_if (is_neutral op n) clear_none (clear_then (skip_clear op n label) (next_clear op n spot off))
 
+carried_clear : (op : BinaryOp) (low high : Spot) (label : ℕ) → IsOffByte high → Clear (carried_code op low high label)
+carried_clear op low high label off =
+    let iny : Clear (implied Iny ∷ []) = record { all = refl } in
+    clear_then (skip_clear op 0 label) (clear_then (clear_if (is_next low high) (clear_then iny (adc_again high)) (adc_reach high)) (store_clear high off))
+
 number_clear : (op : BinaryOp) (n : ℕ) (target : Target) (label : ℕ) → IsOffTarget target → Clear (number_code op n target label)
 number_clear op n (Byte low) label off = clear_then (low_clear op (first n) low off) (label_clear label)
-number_clear op n (Word low high) label off = clear_then (low_clear op (first n) low off.0) (clear_then (high_clear op (second n) high label off.1) (label_clear label))
+number_clear op n (Word low high) label off =
+    clear_if (is_one op n) (clear_then (first_clear op 1 low off.0) (clear_then (carried_clear op low high label off.1) (label_clear label)))
+    (clear_then (low_clear op (first n) low off.0) (clear_then (high_clear op (second n) high label off.1) (label_clear label)))
 
 taken_clear : (spot : Spot) → IsOffByte spot → (at : ℕ) → Clear (taken_code at spot)
 taken_clear spot off at = let own : Clear (zero_page Sbc at ∷ []) = record { all = refl } in clear_then own (store_clear spot off)
@@ -162,7 +179,7 @@ point_clear (places.Near at) = clear_none
 point_clear (places.Data s at) = clear_none
 
 pub fill_clear : (n : ℕ) (low high : Spot) → IsOffByte low → IsOffByte high → Clear (fill_code n low high)
-fill_clear n low high first second = let own : Clear (value Lda n ∷ []) = record { all = refl } in clear_then own (clear_then (put_clear low first) (put_clear high second))
+fill_clear n low high first second = let own : Clear (value Lda n ∷ []) = record { all = refl } in let iny : Clear (implied Iny ∷ []) = record { all = refl } in clear_then own (clear_then (put_clear low first) (clear_if (is_next low high) (clear_then iny (store_clear high second)) (put_clear high second)))
 
 -- ---- what is changed lies where the place does
 

@@ -5,7 +5,7 @@ use Rattle.std.specs.List.{list_all}
 use Rattle.c65_base.specs.declared.operators.BinaryOp.{BinaryOp}
 use Rattle.c65_base.specs.declared.operators.BinaryOp.TheVariants as ops
 use Rattle.c65_mach.specs.declared.rows.Op.{Op}
-use Rattle.c65_mach.specs.declared.rows.Op.TheVariants.{Bcc, Bcs, Bne, Dec, Inc, Lda, Sbc, Sec, Sta, Txa}
+use Rattle.c65_mach.specs.declared.rows.Op.TheVariants.{Adc, Bcc, Bcs, Bne, Dec, Inc, Iny, Lda, Sbc, Sec, Sta, Txa}
 use Rattle.c65_mach.specs.declared.rows.Mode.TheVariants.{Relative}
 use Rattle.c65_code.specs.declared.line.Line.{Line}
 use Rattle.c65_code.specs.declared.line.Line.TheVariants.{Label}
@@ -19,8 +19,8 @@ use Rattle.c65_genchange.specs.declared.spots.Target.{Target}
 use Rattle.c65_genchange.specs.declared.spots.Target.TheVariants.{Byte, Word}
 use Rattle.c65_genchange.specs.declared.changes.Change.{Change}
 use Rattle.c65_genchange.specs.declared.changes.Change.TheVariants.{Up, Down, Number, Operand}
-use Rattle.c65_genchange.specs.Spots.{reach_code, again_code}
-use Rattle.c65_genchange.specs.Changes.{up_code, down_code, byte_code, first_code, next_code, is_neutral, skip_code, low_code, high_code, number_code, aside_code, taken_code, less_code, joined_code, more_code, operand_code, change_code}
+use Rattle.c65_genchange.specs.Spots.{reach_code, again_code, is_next, beside_code}
+use Rattle.c65_genchange.specs.Changes.{up_code, down_code, byte_code, first_code, next_code, is_neutral, skip_code, low_code, high_code, is_one, carried_code, number_code, aside_code, taken_code, less_code, joined_code, more_code, operand_code, change_code, fill_code}
 use Rattle.c65_gen_law_lines.proofs.Made.{is_plain}
 use Rattle.c65_gen_law_lines.proofs.Leaves.{Still, leaves_none}
 use Rattle.c65_gen_law_stack.proofs.Levels.{Level, level_then, level_end, level_piece, level_label, level_leads, Closed}
@@ -86,6 +86,11 @@ again_steady op (Behind pointer at) = steady_piece (λ v. record { to = λ calls
 again_steady op (Data sym at) = steady_piece (λ v. record { to = λ calls. refl }) refl
 again_steady op (Zero at) = steady_piece (λ v. record { to = λ calls. refl }) refl
 
+beside_steady : {X : Labels} (op : Op) (low high : Spot) → Steady No X (beside_code op low high)
+beside_steady {X = X} op low high =
+    let iny : Steady No X (implied Iny ∷ []) = steady_piece (λ v. record { to = λ calls. refl }) refl in
+    steady_if (is_next low high) (steady_on iny (again_steady op high)) (reach_steady op high)
+
 pub carry_steady : {X : Labels} (op : BinaryOp) → Steady No X (carry_code op)
 carry_steady ops.Add = steady_piece (λ v. record { to = λ calls. refl }) refl
 carry_steady ops.Sub = steady_piece (λ v. record { to = λ calls. refl }) refl
@@ -124,9 +129,14 @@ skip_steady _ n label x = steady_none
 high_steady : {X : Labels} (op : BinaryOp) (n : ℕ) (spot : Spot) (label : ℕ) → X label → Steady No X (high_code op n spot label)
 high_steady op n spot label x = steady_if (is_neutral op n) steady_none (steady_on (skip_steady op n label x) (next_steady op n spot))
 
+carried_steady : {X : Labels} (op : BinaryOp) (low high : Spot) (label : ℕ) → X label → Steady No X (carried_code op low high label)
+carried_steady op low high label x = steady_on (skip_steady op 0 label x) (steady_on (beside_steady Adc low high) (again_steady Sta high))
+
 number_steady : (op : BinaryOp) (n : ℕ) (target : Target) (label : ℕ) → Steady No No (number_code op n target label)
 number_steady op n (Byte low) label = steady_close label (inr refl) (steady_then (low_steady op (first n) low) (steady_label label))
-number_steady op n (Word low high) label = steady_close label (inr (inr refl)) (steady_then (low_steady op (first n) low) (steady_then (high_steady op (second n) high label (inl refl)) (steady_label label)))
+number_steady op n (Word low high) label =
+    steady_if (is_one op n) (steady_close label (inr (inr refl)) (steady_then (first_steady op 1 low) (steady_then (carried_steady op low high label (inl refl)) (steady_label label))))
+    (steady_close label (inr (inr refl)) (steady_then (low_steady op (first n) low) (steady_then (high_steady op (second n) high label (inl refl)) (steady_label label))))
 
 taken_steady : {X : Labels} (at : ℕ) (spot : Spot) → Steady No X (taken_code at spot)
 taken_steady {X = X} at spot =
@@ -164,3 +174,8 @@ change_steady (Operand op target) label = steady_close label (inr refl) (steady_
 
 pub change_level : (change : Change) (label : ℕ) (v : List ℕ) → Closed [] v (change_code change label) v
 change_level change label v = steady_closed (change_steady change label) v
+
+pub fill_steady : (n : ℕ) (low high : Spot) → Steady No No (fill_code n low high)
+fill_steady n low high =
+    let byte : Steady No No (value Lda n ∷ []) = steady_piece (λ v. record { to = λ calls. refl }) refl in
+    steady_on byte (steady_on (reach_steady Sta low) (beside_steady Sta low high))

@@ -18,20 +18,30 @@ use Rattle.c65_genexpr.specs.Uses.{uses}
 use Rattle.c65_genexpr.specs.Code.{node_code}
 use Rattle.c65_genchange.specs.declared.changes.Change.{Change}
 use Rattle.c65_geneffect.specs.declared.changing.Changing.{Changing}
-use Rattle.c65_geneffect.specs.declared.changing.Changing.TheVariants.{Fixed, Loaded, Otherwise}
+use Rattle.c65_geneffect.specs.declared.changing.Changing.TheVariants.{Fixed, Loaded, Computed, Otherwise}
 use Rattle.c65_geneffect.specs.declared.changing.Fill.{Fill}
 use Rattle.c65_genchange.specs.Changes.{change_code}
 use Rattle.c65_geneffect.specs.Changing.{in_front, stepping_of, changing_of, filling_of}
 use Rattle.c65_geneffect.specs.declared.setting.Setting.{Setting}
+use Rattle.c65_ints.specs.declared.types.IntType.{IntType}
+use Rattle.c65_genload.specs.Places.{type_in}
+use Rattle.c65_genexpr.specs.declared.operands.Operands.{Operands}
+use Rattle.c65_genexpr.specs.declared.operands.Operands.TheVariants.{Numbers, PointerFirst}
+use Rattle.c65_genexpr.specs.declared.operating.Form.{Form}
+use Rattle.c65_genexpr.specs.Operands.{computes}
+use Rattle.c65_geneffect.specs.declared.placing.Placing.{Placing}
+use Rattle.c65_geneffect.specs.declared.placing.Placing.TheVariants as placings
+use Rattle.c65_geneffect.specs.Placing.{placing_of}
 use Rattle.c65_geneffect.specs.declared.setting.Setting.TheVariants as settings
 use Rattle.c65_geneffect.specs.Setting.{setting_of, below_value, base_for, set_by}
-use Rattle.c65_geneffect.specs.Effects.{stepped_by, changed_by, filled_or, set_code, changed_code, step_effect, effect_code, node_effect, effect_uses}
+use Rattle.c65_geneffect.specs.Effects.{stepped_by, computed_code, changed_by, changed_base, filled_or, placed_code, set_code, changed_code, step_effect, effect_code, node_effect, effect_uses}
 use Rattle.c65_gen_law_lines.proofs.EffectFacts.{target_in, OfStep, OfChanging, OfFill, stepping_target, changing_target, filling_target}
-use Rattle.c65_gen_law_stack.proofs.BankPieces.{Clear, label_clear, clear_then, IsOff, hold_clear}
+use Rattle.c65_gen_law_stack.proofs.BankPieces.{Clear, label_clear, clear_then, IsOff, hold_clear, load_clear, convert_clear, store_clear}
 use Rattle.c65_gen_law_stack.proofs.EvenLines.{No}
-use Rattle.c65_gen_law_stack.proofs.EvenForms.{keep_even}
+use Rattle.c65_gen_law_stack.proofs.EvenForms.{keep_even, value_even}
+use Rattle.c65_gen_law_stack.proofs.EvenElements.{read_even, behind_even, waiting_even, held_even, value_waits_even, later_even}
 use Rattle.c65_gen_law_stack.proofs.FieldClears.{number_clear, behind_clear, set_clear}
-use Rattle.c65_gen_law_stack.proofs.BankExprs.{IsBankless, place_off, expr_clear, base_clear}
+use Rattle.c65_gen_law_stack.proofs.BankExprs.{IsBankless, place_off, expr_clear, base_clear, index_clear}
 use Rattle.c65_gen_law_stack.proofs.ChangeClears.{IsOffTarget, change_clear, fill_clear, target_off}
 
 fixed_clear : {base : List Line} (change : Change) (label : ℕ) → IsOffTarget (target_in change) → Clear base → Clear (base ++ change_code change label)
@@ -41,10 +51,15 @@ stepped_clear : {base whole : List Line} (form : Option Change) (label : ℕ) �
 stepped_clear (Some change) label off cb cw = fixed_clear change label off cb
 stepped_clear None label off cb cw = cw
 
-changed_clear : {left right whole : List Line} (how : Changing) (label : ℕ) → OfChanging IsOffTarget how → Clear left → Clear right → Clear whole → Clear (changed_by how label left right whole)
-changed_clear (Fixed change) label off cl cr cw = fixed_clear change label off cl
-changed_clear (Loaded change) label off cl cr cw = clear_then cl (clear_then cr (change_clear change label off))
-changed_clear Otherwise label off cl cr cw = clear_then cw (label_clear label)
+computed_clear : (place : Place) (access : Access) (kind : IntType) (form : Form) (label : ℕ) → IsOff place → Clear (computed_code place access kind form label)
+computed_clear place access kind form label off =
+    clear_then (load_clear place access) (clear_then (convert_clear (type_in access) kind) (clear_then (value_even {X = No} form label).clear (clear_then (convert_clear kind (type_in access)) (store_clear place access off))))
+
+changed_clear : {left right whole : List Line} (how : Changing) (place : Place) (access : Access) (kind : IntType) (label : ℕ) → IsOff place → OfChanging IsOffTarget how → Clear left → Clear right → Clear whole → Clear (changed_by how place access kind label left right whole)
+changed_clear (Computed form) place access kind label there off cl cr cw = clear_then cl (computed_clear place access kind form label there)
+changed_clear (Fixed change) place access kind label there off cl cr cw = fixed_clear change label off cl
+changed_clear (Loaded change) place access kind label there off cl cr cw = clear_then cl (clear_then cr (change_clear change label off))
+changed_clear Otherwise place access kind label there off cl cr cw = clear_then cw (label_clear label)
 
 filled_clear : {base whole : List Line} (fill : Option Fill) → OfFill IsOffTarget fill → Clear base → Clear whole → Clear (filled_or fill base whole)
 filled_clear (Some fill) off cb cw = clear_then cb (fill_clear fill.byte fill.low fill.high off.0 off.1)
@@ -68,11 +83,22 @@ step_clear f pushed lo t how e k whole =
     let access : Access = access_of (types_of f.parts.types) e in
     stepped_clear (stepping_of how (target_bytes f (bare e)) place access) lo (stepping_target IsOffTarget how (target_bytes f (bare e)) place access (target_off place access (place_off f pushed e k))) (base_clear f pushed (lo + 1) Pointer e k) whole
 
-op_clear : (f : Framed) (pushed lo : ℕ) (op : BinaryOp) (size : ℕ) (a b : Typed) (whole : List Line) → IsBankless f → Clear whole → Clear (changed_code f pushed lo op size a b whole)
-op_clear f pushed lo op size a b whole k cw =
+op_clear : (f : Framed) (pushed lo : ℕ) (op : BinaryOp) (operands : Operands) (size : ℕ) (a b : Typed) (whole : List Line) → IsBankless f → Clear whole → Clear (changed_code f pushed lo op operands size a b whole)
+op_clear f pushed lo op operands size a b whole k cw =
     let place : Place = place_of f pushed a in
     let access : Access = access_of (types_of f.parts.types) a in
-    changed_clear (changing_of op size place access b) lo (changing_target IsOffTarget op size place access b (target_off place access (place_off f pushed a k))) (base_clear f pushed (lo + 1) Pointer a k) (expr_clear f pushed (lo + 1 + uses None a) Value b k) cw
+    let how : Changing = changing_of op operands size place access b in
+    let off : IsOff place = place_off f pushed a k in
+    changed_clear how place access (computes operands) lo off (changing_target IsOffTarget op operands size place access b (target_off place access off)) (base_clear f pushed (lo + 1) (changed_base how) a k) (expr_clear f pushed (lo + 1 + uses None a) Value b k) cw
+
+placed_clear : {whole : List Line} (f : Framed) (pushed lo : ℕ) (how : Placing) (a b : Typed) → IsBankless f → Clear whole → Clear (placed_code f pushed lo how a b whole)
+placed_clear f pushed lo (placings.Read x low high) a b k cw = clear_then (index_clear f pushed lo a k) (read_even {X = No} x low high).clear
+placed_clear f pushed lo (placings.Behind x extent d) a b k cw = clear_then (label_clear lo) (clear_then (expr_clear f pushed (lo + 1) Value b k) (behind_even {X = No} x extent d).clear)
+placed_clear f pushed lo (placings.Held x extent) a b k cw =
+    clear_then (index_clear f pushed lo a k) (clear_then (waiting_even {X = No} x).clear (clear_then (expr_clear f pushed (lo + uses None a) Value b k) (held_even {X = No} x extent).clear))
+placed_clear f pushed lo (placings.Later x extent) a b k cw =
+    clear_then (expr_clear f pushed lo Value b k) (clear_then (value_waits_even {X = No} extent).clear (clear_then (index_clear f pushed (lo + uses None b) a k) (later_even {X = No} x extent).clear))
+placed_clear f pushed lo placings.Otherwise a b k cw = cw
 
 mutual
   pub effect_clear : (f : Framed) (pushed lo : ℕ) (e : Typed) → IsBankless f → Clear (effect_code f pushed lo e)
@@ -84,9 +110,10 @@ mutual
   node_effect_clear f pushed lo t (assign a b) k =
       let place : Place = place_of f pushed a in
       let access : Access = access_of (types_of f.parts.types) a in
-      filled_clear (filling_of place access b) (filling_target IsOffTarget place access b (target_off place access (place_off f pushed a k))) (base_clear f pushed lo Registers a k) (field_clear f pushed lo a b (node_code f pushed lo Value t (assign a b)) k (expr_clear f pushed lo Value (node t (assign a b)) k))
-  node_effect_clear f pushed lo t (assign_op op kind a b) k = op_clear f pushed lo op 1 a b (node_code f pushed (lo + 1) Value t (assign_op op kind a b)) k (expr_clear f pushed (lo + 1) Value (node t (assign_op op kind a b)) k)
-  node_effect_clear f pushed lo t (assign_step op a b) k = op_clear f pushed lo op (target_bytes f (bare a)) a b (node_code f pushed (lo + 1) Value t (assign_step op a b)) k (expr_clear f pushed (lo + 1) Value (node t (assign_step op a b)) k)
+      placed_clear f pushed lo (placing_of f pushed a b) a b k
+      (filled_clear (filling_of place access b) (filling_target IsOffTarget place access b (target_off place access (place_off f pushed a k))) (base_clear f pushed lo Registers a k) (field_clear f pushed lo a b (node_code f pushed lo Value t (assign a b)) k (expr_clear f pushed lo Value (node t (assign a b)) k)))
+  node_effect_clear f pushed lo t (assign_op op kind a b) k = op_clear f pushed lo op (Numbers kind) 1 a b (node_code f pushed (lo + 1) Value t (assign_op op kind a b)) k (expr_clear f pushed (lo + 1) Value (node t (assign_op op kind a b)) k)
+  node_effect_clear f pushed lo t (assign_step op a b) k = op_clear f pushed lo op (PointerFirst (target_bytes f (bare a))) (target_bytes f (bare a)) a b (node_code f pushed (lo + 1) Value t (assign_step op a b)) k (expr_clear f pushed (lo + 1) Value (node t (assign_step op a b)) k)
   node_effect_clear f pushed lo t (step PreInc e) k = step_clear f pushed lo t PreInc e k (expr_clear f pushed lo Value (node t (step PreInc e)) k)
   node_effect_clear f pushed lo t (step PreDec e) k = step_clear f pushed lo t PreDec e k (expr_clear f pushed lo Value (node t (step PreDec e)) k)
   node_effect_clear f pushed lo t (step PostInc e) k = step_clear f pushed lo t PostInc e k (expr_clear f pushed lo Value (node t (step PreInc e)) k)

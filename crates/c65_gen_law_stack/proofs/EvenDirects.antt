@@ -75,7 +75,7 @@ carry_even ops.Add = even_lines (implied Clc ∷ []) refl
 carry_even ops.Sub = even_lines (implied Sec ∷ []) refl
 carry_even _ = even_lines [] refl
 
-first_even : {X : Labels} (op : BinaryOp) (low : OperandByte) → Even No X (first_byte_code op low)
+pub first_even : {X : Labels} (op : BinaryOp) (low : OperandByte) → Even No X (first_byte_code op low)
 first_even op low = even_on (carry_even op) (byte_even (instruction op) low (instruction_reads op))
 
 both_even : {X : Labels} (op : BinaryOp) (low high : OperandByte) → Even No X (both_bytes_code op low high)

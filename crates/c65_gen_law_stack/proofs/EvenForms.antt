@@ -96,7 +96,7 @@ placed_even ops.Add label = even_lines [] refl
 placed_even ops.Sub label = even_lines [] refl
 placed_even _ label = even_labelled label (even_lines [] refl)
 
-value_even : {X : Labels} (form : Form) (label : ℕ) → Even No X (value_form form label)
+pub value_even : {X : Labels} (form : Form) (label : ℕ) → Even No X (value_form form label)
 value_even (Sum n) label = added_even n label
 value_even (LongSum n) label = even_labelled label (even_lines (add_long_code n) refl)
 value_even (Mask op n) label = even_labelled label (long_mask_even op n)

@@ -40,6 +40,7 @@ use Rattle.c65_gendirect.specs.Compare.{relation_of}
 use Rattle.c65_genshift.specs.Shifts.{labelled}
 use Rattle.c65_genexpr.specs.declared.destination.Destination.{Destination}
 use Rattle.c65_genexpr.specs.declared.destination.Destination.TheVariants.{Registers}
+use Rattle.c65_genexpr.specs.declared.destination.Destination.TheVariants as destinations
 use Rattle.c65_genexpr.specs.declared.operands.Operands.{Operands}
 use Rattle.c65_genexpr.specs.declared.operands.Operands.TheVariants.{Numbers, PointerFirst, PointerLast, Pointers}
 use Rattle.c65_genexpr.specs.declared.operating.Operating.{Operating}
@@ -47,7 +48,7 @@ use Rattle.c65_genexpr.specs.declared.operating.Operating.TheVariants as operati
 use Rattle.c65_genexpr.specs.declared.comparing.Side.{Side}
 use Rattle.c65_genexpr.specs.declared.comparing.Side.TheVariants.{Left, Right}
 use Rattle.c65_genexpr.specs.declared.comparing.Comparing.{Comparing}
-use Rattle.c65_genexpr.specs.declared.comparing.Comparing.TheVariants.{Truth, Byte, Whole, Stacked, Held}
+use Rattle.c65_genexpr.specs.declared.comparing.Comparing.TheVariants.{Truth, Byte, Whole, Stacked, Held, HeldByte}
 use Rattle.c65_genexpr.specs.declared.storing.Storing.{Storing}
 use Rattle.c65_genexpr.specs.declared.storing.Storing.TheVariants as storing
 use Rattle.c65_genexpr.specs.declared.wanted.Wanted.{Wanted}
@@ -60,7 +61,7 @@ use Rattle.c65_genexpr.specs.Places.{more, has_base, added_bytes, sum_has_base, 
 use Rattle.c65_genexpr.specs.Wanted.{wanted_by, handed, wanted, sense, aimed, inner, truth_by, way, way_labels, joined, branch_code}
 use Rattle.c65_genexpr.specs.Operands.{residue_of, constant_in, operands_of, computes, between_code, behind_code, same_truth, conversion_by}
 use Rattle.c65_genexpr.specs.Direct.{kept_at, own_bytes, direct_of, is_pure, is_byte}
-use Rattle.c65_genexpr.specs.Comparing.{relation_by, tested_by, compared_by, comparing_of, on, low_code, below_side, comparison_by, held_by, or_held}
+use Rattle.c65_genexpr.specs.Comparing.{relation_by, tested_by, compared_by, comparing_of, takes_low, on, low_code, below_side, comparison_by, held_by, or_held}
 use Rattle.c65_genexpr.specs.Operating.{operating_of, waiting_code, stacked_code, below_operand, operator_by, is_light}
 use Rattle.c65_genexpr.specs.Destination.{arrived, destination_of}
 use Rattle.c65_genexpr.specs.Storing.{storing_of, below_value, base_for, assigned_by}
@@ -70,21 +71,28 @@ use Rattle.c65_genexpr.specs.Arguments.{is_fast, is_counted, stays, passed_size,
 use Rattle.c65_genexpr.specs.Arguments as arguments
 use Rattle.c65_genexpr.specs.Calls.{named, count_code, fetch_code, result_code, library_at, named_by, named_code, pointer_code, direct_code, ptr4_code}
 use Rattle.c65_genexpr.specs.Uses.{uses, by_relation}
+use Rattle.c65_genexpr.specs.declared.elements.Element.{Element}
+use Rattle.c65_genexpr.specs.Elements.{sum_element, element_of, element_at, element_or, loaded_element, element_byte_code}
+use Rattle.c65_genexpr.specs.Lows.{is_number, byte_in, low_operand, low_operand_or, behind_pointer, low_load_by}
+use Rattle.c65_gendirect.specs.Words.{first_byte_code}
+use Rattle.c65_genload.specs.declared.places.Extent.TheVariants.{One as one_byte}
 use Rattle.c65_genfield.specs.Bits.{byte_field}
-use Rattle.c65_genexpr.specs.Code.{width_in, tested_load, load_by, behind_open, compound, call_by, expr_code, node_code, base_code, pointer_base_code, args_code}
+use Rattle.c65_genexpr.specs.Code.{width_in, tested_load, load_by, behind_open, compound, call_by, expr_code, node_code, base_code, pointer_base_code, low_value_code, index_code, sum_index_code, args_code}
 use Rattle.c65_gen_law_lines.specs.Stack.{waiting_by, taken, left, waits, argument_bytes, passed, unless_named, calls_of, node_calls, args_calls}
 use Rattle.c65_gen_law_lines.proofs.Made.{is_plain, piece_append}
 use Rattle.c65_gen_law_lines.proofs.Pieces.{narrow_piece, keep_piece, byte_behind_piece, word_behind_piece, read_bytes_piece, byte_through_piece, word_through_piece, symbol_piece, offset_piece, object_piece, conversion_piece, push_piece, argument_piece, hold_piece, part_piece, store_piece, copy_piece, spill_piece, further_piece, unary_piece, between_piece, behind_piece, wide_piece, open_piece, close_piece, named_piece, pointer_piece, direct_piece}
 use Rattle.c65_gen_law_lines.proofs.Leaves.{waits_append, Leaves, leaves_then, leaves_none, Still}
 use Rattle.c65_gen_law_lines.proofs.StackPieces.{narrow_still, keep_still, byte_behind_still, word_behind_still, read_bytes_still, byte_through_still, word_through_still, object_still, further_still, offset_still, conversion_still, push_leaves, argument_leaves, holding, hold_leaves, bytes_still, stored_leaves, copy_leaves, spill_still, unary_still, between_leaves, behind_leaves, wide_leaves, open_leaves, close_leaves}
-use Rattle.c65_gen_law_lines.proofs.Pointed.{arrived_piece, arrived_still, fetch_piece, fetch_still}
-use Rattle.c65_gen_law_lines.proofs.Drops.{Unstored, storing_calls, sum_calls}
+use Rattle.c65_gen_law_lines.proofs.Pointed.{arrived_piece, arrived_still, fetch_piece, fetch_still, behind_pointer_piece, behind_pointer_still}
+use Rattle.c65_gen_law_lines.proofs.Drops.{Unstored, storing_calls, sum_calls, low_left, low_right}
 use Rattle.c65_gen_law_lines.proofs.StackLaws.{nothing_more}
 use Rattle.c65_gen_law_stack.proofs.Levels.{Level, Nowhere, level_then, level_end, level_behind, level_plain, level_piece, level_none, Closed, closed_open, closed_then, closed_behind, closed_as}
 use Rattle.c65_gen_law_stack.proofs.EvenLines.{Labels, No, One, Both, At, Even, even_end, even_label, even_jump, even_lines}
 use Rattle.c65_gen_law_stack.proofs.EvenShifts.{elements_even}
-use Rattle.c65_gen_law_stack.proofs.EvenDirects.{byte_even, compare_even, compare_byte_even, zero_test_even, truth_even}
+use Rattle.c65_gen_law_stack.proofs.EvenDirects.{byte_even, first_even, compare_even, compare_byte_even, zero_test_even, truth_even}
 use Rattle.c65_gen_law_stack.proofs.EvenForms.{loaded_test_even, Aim, value_test_even, routine_test_even, constant_even, keep_even, form_even, end_even}
+use Rattle.c65_gen_law_stack.proofs.EvenElements.{keep_byte_even, element_value_even, element_test_even, element_byte_even}
+use Rattle.c65_gen_law_lines.proofs.Elements.{sum_indexes, onward_from, element_from, byte_idle, low_reads}
 use Rattle.c65_gen_law_stack.proofs.StepLevels.{step_level}
 use Rattle.c65_gen_law_stack.proofs.ReadSides.{Reaches, direct_reached, First, Compared, compared_reached, or_held_reached, tested_reached, Operated, operating_reached}
 
@@ -286,7 +294,7 @@ conversion_level (Test to s) false t from p = wanted_level (Test to s) (width_of
 -- ---- operators
 
 -- lines that leave what waits, as closed ones
-shut : {a : List Line} → Even No No a → (v : List ℕ) → Closed [] v a v
+pub shut : {a : List Line} → Even No No a → (v : List ℕ) → Closed [] v a v
 shut e v = closed_value (leading_even e)
 
 between_level : (operands : Operands) (v : List ℕ) → Closed [] v (between_code operands) (waiting (width_of (computes operands)) ∷ v)
@@ -337,6 +345,8 @@ plain_comparison_level {v = v} (Byte side low r d) op operands right s to m give
 plain_comparison_level {v = v} (Whole side r is_signed sides) op operands right s to m given da db = leading_behind (leading_closed (side_level side given (da v) (db v))) (compare_even r is_signed sides m to refl)
 plain_comparison_level {v = v} (Held r is_signed) op operands right s to m given da db =
     leading_then (leading_closed (da v)) (leading_then (leading_even keep_even) (leading_behind (leading_closed (db v)) (compare_even r is_signed (Word held_low held_high) m to refl)))
+plain_comparison_level {v = v} (HeldByte r) op operands right s to m given da db =
+    leading_labelled m (leading_then (leading_closed (da v)) (leading_then (leading_even keep_byte_even) (leading_behind (leading_closed (db v)) (compare_byte_even r held_low to refl))))
 plain_comparison_level {v = v} Stacked op operands right s to m given da db =
     let w : ℕ = waiting (width_of (computes operands)) in
     let test : Leading (One to) [] v (implied Tay ∷ branch_code s to) = leading_even (routine_test_even s to refl) in
@@ -351,6 +361,11 @@ comparison_level : {cs ds : List (List ℕ)} {v : List ℕ} {a b : List Line} (x
 comparison_level {cs = cs} {ds = ds} {v = v} (Some x) y how op operands right s to m first second given da db = leading_labelled m (leading_as (left_calls cs ds (first refl)) (da v))
 comparison_level {cs = cs} {ds = ds} {v = v} None (Some y) how op operands right s to m first second given da db = leading_labelled m (leading_as (right_calls cs ds (second refl)) (db v))
 comparison_level None None how op operands right s to m first second given da db = plain_comparison_level how op operands right s to m given (λ u. closed_value (da u)) (λ u. closed_value (db u))
+
+-- a side, or the low byte of it
+low_side : {cs : List (List ℕ)} {v : List ℕ} {low whole : List Line} (x : Option Bool) (to : ℕ) (b : Bool) → (b ≡ true → x ≡ None) → Closed cs v low v → Aimed (wanted_by x to) cs v whole → Aimed (wanted_by x to) cs v (if b then low else whole)
+low_side {cs = cs} {v = v} {low = low} x to true plain dl dw = subst (λ (y : Option Bool). Aimed (wanted_by y to) cs v low) (sym (plain refl)) (leading_closed dl)
+low_side x to false plain dl dw = dw
 
 relation_level : (w : Wanted) {cs : List (List ℕ)} {v : List ℕ} (o : Option Relation) {other : List Line} {f : Relation → List Line} → Aimed w cs v other → ((r : Relation) → Aimed w cs v (f r)) → Aimed w cs v (by_relation o other f)
 relation_level w None p q = p
@@ -381,12 +396,34 @@ either_level : {cs : List (List ℕ)} {v : List ℕ} {a b : List Line} (c : Bool
 either_level true da db = da
 either_level false da db = db
 
-label_level : {cs : List (List ℕ)} {v : List ℕ} {a : List Line} (m : ℕ) → Closed cs v a v → Closed cs v (Label m ∷ a) v
+pub label_level : {cs : List (List ℕ)} {v : List ℕ} {a : List Line} (m : ℕ) → Closed cs v a v → Closed cs v (Label m ∷ a) v
 label_level {v = v} m d = level_end (level_then ((even_label {X = No} m).level v) (closed_open d)) (λ l h z. absurd z) (λ l h z. absurd z.0)
 
 sum_level : {cs ds : List (List ℕ)} {v : List ℕ} {a b : List Line} (c : Bool) (m : ℕ) → (c ≡ true → ds ≡ []) → Closed cs v a v → Closed (cs ++ ds) v b v → Closed (cs ++ ds) v (if c then Label m ∷ a else b) v
 sum_level {cs = cs} {ds = ds} true m quiet da db = closed_as (left_calls cs ds (quiet refl)) (label_level m da)
 sum_level false m quiet da db = db
+
+-- ---- elements and low bytes
+
+element_load_level : {cs : List (List ℕ)} {v : List ℕ} {index : List Line} (w : Wanted) (x : Element × IntType) → Closed cs v index v → Aimed w cs v (loaded_element w x index)
+element_load_level {v = v} Value x d = leading_closed (closed_behind d (shut (element_value_even x.0 x.1) v))
+element_load_level (Test to s) x d = leading_behind (leading_closed d) (element_test_even x.0 x.1 s to refl)
+
+element_level : {cs : List (List ℕ)} {v : List ℕ} {whole : List Line} (w : Wanted) (o : Option (Element × IntType)) (code : Element × IntType → List Line) → ((x : Element × IntType) → o ≡ Some x → Aimed w cs v (code x)) → Aimed w cs v whole → Aimed w cs v (element_or o code whole)
+element_level w None code found other = other
+element_level w (Some x) code found other = found x refl
+
+low_by_level : {cs : List (List ℕ)} {v : List ℕ} {code : List Line} (o : Option OperandByte) → ((d : OperandByte) → o ≡ Some d → cs ≡ []) → Closed cs v code v → Closed cs v (low_code o code) v
+low_by_level None quiet d = d
+low_by_level {v = v} (Some byte) quiet d = closed_as (sym (quiet byte refl)) (shut (byte_even Lda byte refl) v)
+
+low_operand_level : {cs : List (List ℕ)} {v : List ℕ} {whole : List Line} (o : Option OperandByte) (code : OperandByte → List Line) → ((d : OperandByte) → o ≡ Some d → Closed cs v (code d) v) → Closed cs v whole v → Closed cs v (low_operand_or o code whole) v
+low_operand_level None code found other = other
+low_operand_level (Some d) code found other = found d refl
+
+low_load_level : {cs : List (List ℕ)} {v : List ℕ} {base other : List Line} (o : Option ℕ) → Closed cs v base v → Closed cs v other v → Closed cs v (low_load_by o base other) v
+low_load_level None db d = d
+low_load_level {v = v} (Some at) db d = behind db (behind_pointer_still at one_byte v) (behind_pointer_piece at one_byte).plain
 
 -- ---- the whole tree
 
@@ -418,7 +455,8 @@ mutual
   node_level f pushed lo w t (member e m) v = wanted_level w (width_in t) (behind (value_level f pushed lo e v) (offset_still (offset_at (types_of f.parts.types) (bare e) m) v) (offset_piece (offset_at (types_of f.parts.types) (bare e) m)).plain)
   node_level f pushed lo w t (load e) v =
       let access : Access = access_of (types_of f.parts.types) e in
-      load_level w (place_of f pushed e) access (base_level f pushed lo (destination_of access) e v)
+      element_level w (element_at f e) (λ x. loaded_element w x (index_code f pushed lo e)) (λ x h. element_load_level w x (element_from f e x (λ y found. index_level f pushed lo e y found v) h))
+      (load_level w (place_of f pushed e) access (base_level f pushed lo (destination_of access) e v))
   node_level f pushed lo w t (address e) v = wanted_level w (width_in t) (value_level f pushed lo e v)
   node_level f pushed lo w t (decay e) v = wanted_level w (width_in t) (value_level f pushed lo e v)
   node_level f pushed lo w t (convert e) v =
@@ -438,11 +476,14 @@ mutual
       let how : Comparing = comparing_of f pushed q kind a b in
       let to : ℕ = aimed w lo in
       let own : ℕ = inner w lo in
+      let below : ℕ = below_side how pushed bytes in
+      let next : ℕ = own + 1 + uses (tested_by q b) a in
       let plain : Comparing = compared_by q (is_byte a && is_byte b) kind (is_pure b) (direct_of f pushed a) (direct_of f pushed b) in
-      let compared : Comparing = or_held plain (held_by (is_light f pushed b) (width_of kind) q kind) in
-      let given : Compared (calls_of f a ≡ []) (calls_of f b ≡ []) compared = or_held_reached (calls_of f a ≡ []) (calls_of f b ≡ []) plain (is_light f pushed b) (width_of kind) q kind (compared_reached (calls_of f a ≡ []) (calls_of f b ≡ []) q (is_byte a && is_byte b) kind (is_pure b) (direct_of f pushed a) (direct_of f pushed b) (direct_reached (no_calls f) f pushed a) (direct_reached (no_calls f) f pushed b)) in
+      let compared : Comparing = or_held plain (held_by (is_light f pushed b) (is_byte a && is_byte b) (width_of kind) q kind) in
+      let given : Compared (calls_of f a ≡ []) (calls_of f b ≡ []) compared = or_held_reached (calls_of f a ≡ []) (calls_of f b ≡ []) plain (is_light f pushed b) (is_byte a && is_byte b) (width_of kind) q kind (compared_reached (calls_of f a ≡ []) (calls_of f b ≡ []) q (is_byte a && is_byte b) kind (is_pure b) (direct_of f pushed a) (direct_of f pushed b) (direct_reached (no_calls f) f pushed a) (direct_reached (no_calls f) f pushed b)) in
       truth_level w lo (comparison_level (tested_by q b) (tested_by q a) compared op operands (kind_in b) (sense w) to own (tested_reached (no_calls f) q b) (tested_reached (no_calls f) q a) given
-      (expr_level f pushed (own + 1) (wanted_by (tested_by q b) to) a) (expr_level f (below_side how pushed bytes) (own + 1 + uses (tested_by q b) a) (wanted_by (tested_by q a) to) b)))
+      (λ u. low_side (tested_by q b) to (takes_low how) (low_left f pushed q kind a b) (low_value_level f pushed (own + 1) a u) (expr_level f pushed (own + 1) (wanted_by (tested_by q b) to) a u))
+      (λ u. low_side (tested_by q a) to (takes_low how) (low_right f pushed q kind a b) (low_value_level f below next b u) (expr_level f below next (wanted_by (tested_by q a) to) b u))))
   node_level f pushed lo w t (both a b) v =
       let straight : Bool = not (sense w) in
       let own : ℕ = inner w lo in
@@ -504,6 +545,30 @@ mutual
   pointer_base_level f pushed lo d (node t (address e)) v = base_level f pushed lo d e v
   pointer_base_level f pushed lo d (node t (decay e)) v = base_level f pushed lo d e v
   pointer_base_level f pushed lo d (node t n) v = arrived_level d (closed_value (node_level f pushed lo Value t n v))
+
+  pub low_value_level : (f : Framed) (pushed lo : ℕ) (e : Typed) (v : List ℕ) → Closed (calls_of f e) v (low_value_code f pushed lo e) v
+  low_value_level f pushed lo (node t (convert e)) v =
+      low_by_level (byte_in f pushed (node t (convert e))) (λ d h. (byte_idle f pushed (node t (convert e)) d h).calls) (either_level (is_number (type_in t) && is_number (bare e)) (low_value_level f pushed lo e v) (closed_value (node_level f pushed lo Value t (convert e) v)))
+  low_value_level f pushed lo (node t (binary op a b)) v =
+      low_by_level (byte_in f pushed (node t (binary op a b))) (λ d h. (byte_idle f pushed (node t (binary op a b)) d h).calls)
+      (low_operand_level (low_operand f pushed op a b) (λ d. Label lo ∷ (low_value_code f pushed (lo + 1) a ++ first_byte_code op d))
+      (λ d h. closed_as (left_calls (calls_of f a) (calls_of f b) (low_reads f pushed op a b d h).right.calls) (label_level lo (closed_behind (low_value_level f pushed (lo + 1) a v) (shut (first_even op d) v))))
+      (closed_value (node_level f pushed lo Value t (binary op a b) v)))
+  low_value_level f pushed lo (node t (load e)) v =
+      low_by_level (byte_in f pushed (node t (load e))) (λ d h. (byte_idle f pushed (node t (load e)) d h).calls)
+      (closed_value (element_level Value (element_at f e) (λ x. index_code f pushed lo e ++ element_byte_code x.0)
+      (λ x h. leading_closed (closed_behind (element_from f e x (λ y found. index_level f pushed lo e y found v) h) (shut (element_byte_even x.0) v)))
+      (leading_closed (low_load_level (behind_pointer (place_of f pushed e) (access_of (types_of f.parts.types) e)) (base_level f pushed lo destinations.Pointer e v) (closed_value (node_level f pushed lo Value t (load e) v))))))
+  low_value_level f pushed lo (node t n) v = low_by_level (byte_in f pushed (node t n)) (λ d h. (byte_idle f pushed (node t n) d h).calls) (closed_value (node_level f pushed lo Value t n v))
+
+  pub index_level : (f : Framed) (pushed lo : ℕ) (e : Typed) (x : Element) → element_of f e ≡ Some x → (v : List ℕ) → Closed (calls_of f e) v (index_code f pushed lo e) v
+  index_level f pushed lo (node t (deref e)) x h v = sum_index_level f pushed lo e x h v
+  index_level f pushed lo (node t (member e m)) x h v = onward_from (offset_at (types_of f.parts.types) (bare e) m) (element_of f e) x (λ y found. index_level f pushed lo e y found v) h
+  index_level f pushed lo (node t _) x h v = absurd cc
+
+  sum_index_level : (f : Framed) (pushed lo : ℕ) (e : Typed) (x : Element) → sum_element f e ≡ Some x → (v : List ℕ) → Closed (calls_of f e) v (sum_index_code f pushed lo e) v
+  sum_index_level f pushed lo (node t (binary op a b)) x h v = closed_as (right_calls (calls_of f a) (calls_of f b) (sum_indexes f t op a b x h).array.calls) (label_level lo (low_value_level f pushed (lo + 1) b v))
+  sum_index_level f pushed lo (node t _) x h v = absurd cc
 
   args_level : (f : Framed) (pushed lo : ℕ) (fast : Bool) (es : Nodes) (v : List ℕ) → Closed (args_calls f es) v (args_code f pushed lo fast es) (passed f fast es ++ v)
   args_level f pushed lo fast none v = level_none

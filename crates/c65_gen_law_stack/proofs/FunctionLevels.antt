@@ -1,6 +1,6 @@
 -- The lines of expressions and functions are level.
 use Rattle.std.proofs.Common.{◌≡◌, ℕ, zero, suc, ◌+◌, ◌<◌, ◌≤◌, ◌==◌, ◌||◌, ◌⊎◌, inl, inr, Bool, true, false, not, None, Some, List, [], ◌∷◌, ◌++◌, length, nat_eq, refl, sym, ◌∙◌, ap, subst, arith}
-use Rattle.std.specs.Prelude.{if◌then◌else◌, slice_index_or}
+use Rattle.std.specs.Prelude.{◌&&◌, if◌then◌else◌, slice_index_or}
 use Rattle.std.specs.List.{list_all}
 use Rattle.std.proofs.lemmas.Bool.{cases_eq, and_parts, eq-eqb, eqb-true, ne_eqb}
 use Rattle.c65_csem.specs.Trees.{Stmt, empty, eval, set_part, clear, block, if_stmt, while, do_while, for_loop, switch, case, default, label, goto, break, continue, return, Stmts, no_stmts, and_stmts, UnitTy, FuncTy}
@@ -21,7 +21,7 @@ use Rattle.c65_genentry.specs.Entry.{entry_code}
 use Rattle.c65_genentry.specs.Ends.{end_code}
 use Rattle.c65_genstmt.specs.Jumps.{following}
 use Rattle.c65_genstmt.specs.Cases.{room_of}
-use Rattle.c65_genstmt.specs.Stmts.{with_label, ways, with_stmt}
+use Rattle.c65_genstmt.specs.Stmts.{with_label, ways, with_last, returns_last}
 use Rattle.c65_genstmt.specs.Functions.{main_code, no_lines}
 use Rattle.c65_gen_law_lines.specs.Labels.{times, is_within, among}
 use Rattle.c65_gen_law_lines.specs.Stack.{waiting_by, calls_of, statement_calls}
@@ -35,7 +35,7 @@ use Rattle.c65_gen_law_lines.proofs.StackLaws.{nothing_more}
 use Rattle.c65_gen_law_stack.specs.Heights.{ExpressionsAreLevel, TestsAreLevel, FunctionsAreLevel}
 use Rattle.c65_gen_law_stack.proofs.Levels.{level_end, level_behind, level_label, Closed, all_level, closed_lines}
 use Rattle.c65_gen_law_stack.proofs.ExprLevels.{expr_level, value_level}
-use Rattle.c65_gen_law_stack.proofs.StmtLevels.{Grows, grows_then, grows_behind, grows_end, grows_lines, grows_label, append_lines, Exits, to_behind, to_onward, to_end, to_label, stmt_grows}
+use Rattle.c65_gen_law_stack.proofs.StmtLevels.{Grows, grows_then, grows_behind, grows_end, grows_lines, grows_label, append_lines, Exits, to_behind, to_onward, to_end, to_label, last_grows}
 
 -- ---- expressions
 
@@ -166,10 +166,10 @@ abbrev entered : Framed → Stmt → RegSet → Drafted
 entered f body out = with_lines (with_labels (room_of body) (with_labels 1 (no_lines out))) (entry_code f)
 
 abbrev run : Framed → Stmt → RegSet → Drafted
-run f body out = with_stmt f (ways 0 0 0) 0 body (entered f body out)
+run f body out = with_last f (ways 0 0 0) 0 body (entered f body out)
 
 abbrev ended : Framed → Bool → Stmt → RegSet → Drafted
-ended f is_main body out = with_label 0 (with_lines (run f body out) (main_code is_main))
+ended f is_main body out = with_label 0 (with_lines (run f body out) (main_code (is_main && not (returns_last body))))
 
 abbrev whole : Framed → Bool → Stmt → RegSet → Drafted
 whole f is_main body out = with_lines (ended f is_main body out) (end_code f)
@@ -179,9 +179,10 @@ Shut l = ⊥
 
 body_grows : (u : UnitTy) (g : FuncTy) (body : Stmt) (f : Framed) (is_main : Bool) (out : RegSet) → IsBody u g body → Grows (λ l. 0) Shut (statement_calls f body) (entered f body out) (ended f is_main body out)
 body_grows u g body f is_main out well =
-    let m : Drafted = with_lines (run f body out) (main_code is_main) in
-    let behind : Grows (λ l. 0 + one 0 l) (Exits (ways 0 0 0) (labels_of body)) [] (run f body out) (ended f is_main body out) = grows_then (grows_lines (run f body out) (main_code is_main) (main_still is_main) (main_plain is_main)) (grows_label 0 m) in
-    let all = grows_behind (stmt_grows u (context_of g body) f (ways 0 0 0) 0 body (entered f body out) well.typed) behind in
+    let first : Bool = is_main && not (returns_last body) in
+    let m : Drafted = with_lines (run f body out) (main_code first) in
+    let behind : Grows (λ l. 0 + one 0 l) (Exits (ways 0 0 0) (labels_of body)) [] (run f body out) (ended f is_main body out) = grows_then (grows_lines (run f body out) (main_code first) (main_still first) (main_plain first)) (grows_label 0 m) in
+    let all = grows_behind (last_grows u (context_of g body) f (ways 0 0 0) 0 body (entered f body out) well.typed) behind in
     grows_end all (λ l z. absurd (omega (arith, z))) (λ l x. inl (omega (arith, exits_stand body l x)))
 
 pub functions_are_level : FunctionsAreLevel

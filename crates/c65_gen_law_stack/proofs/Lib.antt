@@ -10,6 +10,7 @@ pub mod EvenLines
 pub mod EvenShifts
 pub mod EvenDirects
 pub mod EvenForms
+pub mod EvenElements
 pub mod ReadSides
 pub mod ChangeLevels
 pub mod StepLevels
@@ -33,6 +34,7 @@ pub mod BankMoves
 pub mod WalkLaws
 pub mod LightPieces
 pub mod StepSpares
+pub mod LightElements
 pub mod LightExprs
 pub mod LightMoves
 pub mod ZeroMoves

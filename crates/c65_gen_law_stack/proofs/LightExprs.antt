@@ -1,6 +1,6 @@
 -- The lines of a light expression leave ptr2.
-use Rattle.std.proofs.Common.{◌≡◌, ℕ, ℤ, not, ◌+◌, ◌/◌, ◌==◌, Bool, true, false, Option, Some, None, List, ◌++◌, refl}
-use Rattle.std.specs.Prelude.{nat_le, ◌&&◌, if◌then◌else◌, option_and_then}
+use Rattle.std.proofs.Common.{◌≡◌, ℕ, ℤ, not, ◌+◌, ◌/◌, ◌==◌, Bool, true, false, Option, Some, None, List, ◌∷◌, ◌++◌, refl}
+use Rattle.std.specs.Prelude.{nat_le, ◌&&◌, ◌||◌, if◌then◌else◌, option_and_then}
 use Rattle.std.proofs.lemmas.Bool.{and_parts}
 use Rattle.c65_base.specs.declared.operators.BinaryOp.{BinaryOp}
 use Rattle.c65_base.specs.declared.operators.BinaryOp.TheVariants as ops
@@ -24,7 +24,7 @@ use Rattle.c65_genload.specs.Conversions.{waiting}
 use Rattle.c65_gendirect.specs.declared.relation.Relation.{Relation}
 use Rattle.c65_gendirect.specs.Compare.{relation_of}
 use Rattle.c65_genexpr.specs.declared.destination.Destination.{Destination}
-use Rattle.c65_genexpr.specs.declared.destination.Destination.TheVariants.{Registers}
+use Rattle.c65_genexpr.specs.declared.destination.Destination.TheVariants.{Registers, Pointer}
 use Rattle.c65_genexpr.specs.declared.operands.Operands.{Operands}
 use Rattle.c65_genexpr.specs.declared.operands.Operands.TheVariants.{Numbers, PointerFirst, PointerLast, Pointers}
 use Rattle.c65_genexpr.specs.declared.operating.Operating.{Operating}
@@ -33,14 +33,20 @@ use Rattle.c65_genexpr.specs.declared.wanted.Wanted.TheVariants.{Value}
 use Rattle.c65_genexpr.specs.Types.{kind_in, bare, offset_at, access_of, target_bytes}
 use Rattle.c65_genexpr.specs.Places.{moved, has_base, added_bytes, sum_has_base, sum_place, object_place, place_of, target_of, object_code, target_code}
 use Rattle.c65_genexpr.specs.Operands.{residue_of, constant_in, operands_of, computes}
-use Rattle.c65_genexpr.specs.Operating.{takes_bytes, is_light_form, is_light_place, is_signed_char, is_light_extent, is_light_access, is_light_load, is_light_step, constant_form, by_right, is_light_conversion, is_light_operator, is_light, reading_of, held_form, held_if, or_held, below_operand, operator_by}
+use Rattle.c65_genexpr.specs.Operating.{constant_right, direct_right, is_light_index, is_light_sum, takes_bytes, is_light_form, is_light_place, is_signed_char, is_light_extent, is_light_access, is_light_load, is_light_step, constant_form, by_right, is_light_conversion, is_light_operator, is_light, reading_of, held_form, held_if, or_held, below_operand, operator_by}
 use Rattle.c65_genexpr.specs.Destination.{arrived, destination_of, fetch_code}
 use Rattle.c65_genexpr.specs.Steps.{amount_of}
 use Rattle.c65_genexpr.specs.Uses.{by_relation, uses}
-use Rattle.c65_genexpr.specs.Code.{width_in, expr_code, node_code, base_code, pointer_base_code, operator_code}
+use Rattle.c65_genexpr.specs.Code.{width_in, expr_code, node_code, base_code, pointer_base_code, operator_code, low_value_code, index_code, sum_index_code}
+use Rattle.c65_code.specs.declared.line.Line.TheVariants.{Label}
+use Rattle.c65_genexpr.specs.Direct.{direct_of, is_fixed, is_pure}
+use Rattle.c65_gendirect.specs.Words.{first_byte_code}
+use Rattle.c65_genexpr.specs.Elements.{element_at}
+use Rattle.c65_genexpr.specs.Lows.{is_number, byte_in, low_operand, behind_pointer}
+use Rattle.c65_gen_law_stack.proofs.LightElements.{element_spares, low_element_spares, low_spares_by, low_operand_spares, low_loading_spares, read_spares, left_light}
 use Rattle.c65_gen_law_stack.specs.Light.{LightLinesLeavePtr2}
 use Rattle.c65_gen_law_stack.proofs.StepSpares.{step_spares}
-use Rattle.c65_gen_law_stack.proofs.LightPieces.{Spares, spares_then, spares_if, narrow_spares, few_spares, first_spares, field_spares, spares_none, spares_label, number_spares, symbol_spares, offset_spares, load_spares, fetch_spares, arrived_spares, object_spares, conversion_spares, form_spares}
+use Rattle.c65_gen_law_stack.proofs.LightPieces.{Spares, first_byte_spares, spares_then, spares_if, narrow_spares, few_spares, first_spares, field_spares, spares_none, spares_label, number_spares, symbol_spares, offset_spares, load_spares, fetch_spares, arrived_spares, object_spares, conversion_spares, form_spares}
 
 target_spares : (code : List Line) (place : Place) → is_light_place place ≡ true → Spares (target_code place code)
 target_spares code (places.Far at) h = absurd cc
@@ -172,7 +178,9 @@ mutual
   node_spares f pushed lo t (member e m) h = spares_then (light_spares f pushed lo e h) (offset_spares (offset_at (types_of f.parts.types) (bare e) m))
   node_spares f pushed lo t (load e) h =
       let access : Access = access_of (types_of f.parts.types) e in
-      loading_spares (place_of f pushed e) access (is_light f pushed e) h (base_spares f pushed lo (destination_of access) e) (far_spares f pushed lo (destination_of access) e)
+      let place : Place = place_of f pushed e in
+      element_spares (element_at f e) (is_light_index f pushed e) (is_light_load place access (is_light f pushed e)) h (index_spares f pushed lo e)
+      (λ k. loading_spares place access (is_light f pushed e) k (base_spares f pushed lo (destination_of access) e) (far_spares f pushed lo (destination_of access) e))
   node_spares f pushed lo t (step how e) h =
       let place : Place = place_of f pushed e in
       let access : Access = access_of (types_of f.parts.types) e in
@@ -207,6 +215,35 @@ mutual
   far_pointer_spares f pushed lo d (node t (address e)) h = far_spares f pushed lo d e h
   far_pointer_spares f pushed lo d (node t (decay e)) h = far_spares f pushed lo d e h
   far_pointer_spares f pushed lo d (node t n) h = spares_then (node_spares f pushed lo t n h) (arrived_spares d)
+
+  low_spares : (f : Framed) (pushed lo : ℕ) (e : Typed) → is_light f pushed e ≡ true → Spares (low_value_code f pushed lo e)
+  low_spares f pushed lo (node t (convert e)) h =
+      low_spares_by (byte_in f pushed (node t (convert e))) (spares_if (is_number (type_in t) && is_number (bare e)) (low_spares f pushed lo e (and_parts (is_light_conversion (type_in t) (kind_in e)) (is_light f pushed e) h).1) (node_spares f pushed lo t (convert e) h))
+  low_spares f pushed lo (node t (binary op a b)) h =
+      let operands : Operands = operands_of f (bare a) (bare b) in
+      let both = and_parts (takes_bytes op) (is_light_operator (reading_of f pushed op operands a b) (is_light f pushed a) (is_light f pushed b)) h in
+      low_spares_by (byte_in f pushed (node t (binary op a b)))
+      (low_operand_spares (low_operand f pushed op a b) (λ d. Label lo ∷ (low_value_code f pushed (lo + 1) a ++ first_byte_code op d))
+      (λ d. spares_then (spares_label lo) (spares_then
+      (left_light op operands (constant_right op operands b) (direct_right op operands (direct_of f pushed b)) (is_fixed (direct_of f pushed a) || is_pure b) (direct_of f pushed a) (is_light f pushed a) (is_light f pushed b) both.1 (low_spares f pushed (lo + 1) a) (read_spares f pushed (lo + 1) a))
+      (first_byte_spares op d)))
+      (node_spares f pushed lo t (binary op a b) h))
+  low_spares f pushed lo (node t (load e)) h =
+      let place : Place = place_of f pushed e in
+      let access : Access = access_of (types_of f.parts.types) e in
+      low_spares_by (byte_in f pushed (node t (load e)))
+      (low_element_spares (element_at f e) (is_light_index f pushed e) (is_light_load place access (is_light f pushed e)) h (index_spares f pushed lo e)
+      (λ k. low_loading_spares (behind_pointer place access) place access (is_light f pushed e) k (base_spares f pushed lo Pointer e) (far_spares f pushed lo Pointer e) (node_spares f pushed lo t (load e) h)))
+  low_spares f pushed lo (node t n) h = low_spares_by (byte_in f pushed (node t n)) (node_spares f pushed lo t n h)
+
+  index_spares : (f : Framed) (pushed lo : ℕ) (e : Typed) → is_light_index f pushed e ≡ true → Spares (index_code f pushed lo e)
+  index_spares f pushed lo (node t (deref e)) h = sum_index_spares f pushed lo e h
+  index_spares f pushed lo (node t (member e m)) h = index_spares f pushed lo e h
+  index_spares f pushed lo (node t _) h = spares_none
+
+  sum_index_spares : (f : Framed) (pushed lo : ℕ) (e : Typed) → is_light_sum f pushed e ≡ true → Spares (sum_index_code f pushed lo e)
+  sum_index_spares f pushed lo (node t (binary op a b)) h = spares_then (spares_label lo) (low_spares f pushed (lo + 1) b h)
+  sum_index_spares f pushed lo (node t _) h = spares_none
 
 pub light_lines_leave_ptr2 : LightLinesLeavePtr2
 light_lines_leave_ptr2 f pushed lo e light = (light_spares f pushed lo e light).all

@@ -245,7 +245,7 @@ conversion_spares (function g) from h = spares_none
 pub reader_spares : (op : Op) (mode : Mode) (o : Operand) → is_written (kind_of op) ≡ false → Spares (Do op mode o ∷ [])
 reader_spares op mode o r = record { all = ap (λ (b : Bool). (not b || lies_beside mode o) && true) r }
 
-byte_spares : (op : Op) (d : OperandByte) → is_written (kind_of op) ≡ false → Spares (op_of op d)
+pub byte_spares : (op : Op) (d : OperandByte) → is_written (kind_of op) ≡ false → Spares (op_of op d)
 byte_spares op (Number n) r = reader_spares op Immediate (operand.Byte n) r
 byte_spares op (Low s at) r = reader_spares op Immediate (operand.Low s at) r
 byte_spares op (High s at) r = reader_spares op Immediate (operand.High s at) r
@@ -279,7 +279,7 @@ carry_spares ops.Add = record { all = refl }
 carry_spares ops.Sub = record { all = refl }
 carry_spares _ = spares_none
 
-first_byte_spares : (op : BinaryOp) (low : OperandByte) → Spares (first_byte_code op low)
+pub first_byte_spares : (op : BinaryOp) (low : OperandByte) → Spares (first_byte_code op low)
 first_byte_spares op low = spares_then (carry_spares op) (byte_spares (instruction op) low (instruction_reads op))
 
 both_spares : (op : BinaryOp) (low high : OperandByte) → Spares (both_bytes_code op low high)

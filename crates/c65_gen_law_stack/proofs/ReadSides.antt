@@ -20,7 +20,7 @@ use Rattle.c65_gendirect.specs.Compare.{mirrored}
 use Rattle.c65_genexpr.specs.declared.comparing.Side.{Side}
 use Rattle.c65_genexpr.specs.declared.comparing.Side.TheVariants as sides
 use Rattle.c65_genexpr.specs.declared.comparing.Comparing.{Comparing}
-use Rattle.c65_genexpr.specs.declared.comparing.Comparing.TheVariants.{Truth, Byte, Whole, Held, Stacked}
+use Rattle.c65_genexpr.specs.declared.comparing.Comparing.TheVariants.{Truth, Byte, Whole, Held, HeldByte, Stacked}
 use Rattle.c65_genexpr.specs.declared.operands.Operands.{Operands}
 use Rattle.c65_genexpr.specs.declared.operating.Form.{Form}
 use Rattle.c65_genexpr.specs.declared.operating.Operating.{Operating}
@@ -126,6 +126,7 @@ Compared A B (Truth side) = First side B A
 Compared A B (Byte side low r d) = First side B A × (IsSome low → First side A B)
 Compared A B (Whole side r is_signed d) = First side B A
 Compared A B (Held r is_signed) = Unit {0}
+Compared A B (HeldByte r) = Unit {0}
 Compared A B Stacked = Unit {0}
 
 option_reached : {A B : Type 0} {C : Type 0} (g : A → Option B) (o : Option A) → ((x : A) → o ≡ Some x → C) → IsSome (option_and_then g o) → C
@@ -152,17 +153,19 @@ compared_reached A B r bytes kind pure a b pa pb =
     compared_if A B (changes kind pure a b) (beside sides.Right (mirrored r) bytes kind b a) (beside sides.Left r bytes kind a b)
     (beside_reached A B sides.Right (mirrored r) bytes kind b a pb pa) (beside_reached A B sides.Left r bytes kind a b pa pb)
 
-held_by_reached : (A B : Type 0) (is : Bool) (w : Width) (r : Relation) (kind : IntType) → Compared A B (held_by is w r kind)
-held_by_reached A B true Ax r kind = tt
-held_by_reached A B true Eax r kind = tt
-held_by_reached A B false w r kind = tt
+held_by_reached : (A B : Type 0) (is bytes : Bool) (w : Width) (r : Relation) (kind : IntType) → Compared A B (held_by is bytes w r kind)
+held_by_reached A B true true Ax r kind = tt
+held_by_reached A B true false Ax r kind = tt
+held_by_reached A B true bytes Eax r kind = tt
+held_by_reached A B false bytes w r kind = tt
 
-pub or_held_reached : (A B : Type 0) (how : Comparing) (is : Bool) (w : Width) (r : Relation) (kind : IntType) → Compared A B how → Compared A B (comparisons.or_held how (held_by is w r kind))
-or_held_reached A B (Truth side) is w r kind p = p
-or_held_reached A B (Byte side low q d) is w r kind p = p
-or_held_reached A B (Whole side q is_signed d) is w r kind p = p
-or_held_reached A B (Held q is_signed) is w r kind p = p
-or_held_reached A B Stacked is w r kind p = held_by_reached A B is w r kind
+pub or_held_reached : (A B : Type 0) (how : Comparing) (is bytes : Bool) (w : Width) (r : Relation) (kind : IntType) → Compared A B how → Compared A B (comparisons.or_held how (held_by is bytes w r kind))
+or_held_reached A B (Truth side) is bytes w r kind p = p
+or_held_reached A B (Byte side low q d) is bytes w r kind p = p
+or_held_reached A B (Whole side q is_signed d) is bytes w r kind p = p
+or_held_reached A B (Held q is_signed) is bytes w r kind p = p
+or_held_reached A B (HeldByte q) is bytes w r kind p = p
+or_held_reached A B Stacked is bytes w r kind p = held_by_reached A B is bytes w r kind
 
 pub tested_reached : {P : Typed → Type 0} → Reaches P → (r : Relation) (e : Typed) → is_some (tested_by r e) ≡ true → P e
 tested_reached {P = P} p r e h = by (is_zero e) refl h
@@ -180,10 +183,10 @@ comparing_reached {P = P} p f pushed r kind a b = by (is_some (tested_by r b)) (
     right : Option Direct
     right = direct_of f pushed b
 
-    by : (x y : Bool) → is_some (tested_by r b) ≡ x → is_some (tested_by r a) ≡ y → Compared (P a) (P b) (if x then Truth sides.Left else (if y then Truth sides.Right else comparisons.or_held (compared_by r (is_byte a && is_byte b) kind (is_pure b) left right) (held_by (is_light f pushed b) (width_of kind) r kind)))
+    by : (x y : Bool) → is_some (tested_by r b) ≡ x → is_some (tested_by r a) ≡ y → Compared (P a) (P b) (if x then Truth sides.Left else (if y then Truth sides.Right else comparisons.or_held (compared_by r (is_byte a && is_byte b) kind (is_pure b) left right) (held_by (is_light f pushed b) (is_byte a && is_byte b) (width_of kind) r kind)))
     by true y h k = tested_reached p r b h
     by false true h k = tested_reached p r a k
-    by false false h k = or_held_reached (P a) (P b) (compared_by r (is_byte a && is_byte b) kind (is_pure b) left right) (is_light f pushed b) (width_of kind) r kind (compared_reached (P a) (P b) r (is_byte a && is_byte b) kind (is_pure b) left right (direct_reached p f pushed a) (direct_reached p f pushed b))
+    by false false h k = or_held_reached (P a) (P b) (compared_by r (is_byte a && is_byte b) kind (is_pure b) left right) (is_light f pushed b) (is_byte a && is_byte b) (width_of kind) r kind (compared_reached (P a) (P b) r (is_byte a && is_byte b) kind (is_pure b) left right (direct_reached p f pushed a) (direct_reached p f pushed b))
 
 -- ---- operators
 

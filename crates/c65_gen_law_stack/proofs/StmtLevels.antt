@@ -33,7 +33,7 @@ use Rattle.c65_geneffect.specs.Effects.{effect_code}
 use Rattle.c65_genstmt.specs.Jumps.{following, with_value, with_effect, with_test}
 use Rattle.c65_genstmt.specs.Objects.{spot_of, object_bytes, point_code, stored_code, with_copied, with_kept, with_zeros}
 use Rattle.c65_genstmt.specs.Cases.{has_default}
-use Rattle.c65_genstmt.specs.Stmts.{case_behind, with_label, with_jump, two_given, three_given, with_maybe, with_effects, with_guard, ways, default_way, with_stmt, with_stmts, with_cases}
+use Rattle.c65_genstmt.specs.Stmts.{case_behind, with_label, with_jump, two_given, three_given, with_maybe, with_effects, with_guard, ways, default_way, with_stmt, with_stmts, with_last, with_lasts, is_empty, with_way, with_cases}
 use Rattle.c65_gen_law_lines.specs.Stack.{calls_of, maybe_calls, statement_calls, statements_calls}
 use Rattle.c65_gen_law_lines.proofs.Made.{is_plain}
 use Rattle.c65_gen_law_lines.proofs.Flat.{point_flat, stored_flat, bank_clear_flat}
@@ -142,6 +142,11 @@ To_label k l = l ≡ k
 
 grows_jump : (k : ℕ) (d : Drafted) → Grows none (To_label k) [] d (with_jump k d)
 grows_jump k d = record { added = jump Jmp k ∷ []; lines = refl; level = level_end (level_leads Jmp Absolute k []) (λ l h z. absurd (omega (arith, z.0))) (λ l h z. inr z) }
+
+-- or none, where nothing stands between
+grows_way : (at : Bool) (k : ℕ) (d : Drafted) → Grows none (To_label k) [] d (with_way at k d)
+grows_way true k d = grows_same d
+grows_way false k d = grows_jump k d
 
 none_left : {X : ℕ → Type 0} {m : ℕ → ℕ} {cs : List (List ℕ)} {d e : Drafted} → Grows m X cs d e → Grows none X cs d e
 none_left p = grows_end p (λ l z. absurd (omega (arith, z))) (λ l x. inr x)
@@ -288,13 +293,13 @@ mutual
   stmt_grows u c f w l (if_stmt e a b) d h =
       let m1 : Drafted = with_test f d.labels false e (two_given d) in
       let m2 : Drafted = with_stmt f w l a m1 in
-      let m3 : Drafted = with_jump (d.labels + 1) m2 in
+      let m3 : Drafted = with_way (is_empty b) (d.labels + 1) m2 in
       let m4 : Drafted = with_label d.labels m3 in
       let m5 : Drafted = with_stmt f w (case_behind l a) b m4 in
       let X : ℕ → Type 0 = Two d.labels (d.labels + 1) (Exits w c.labels) in
       let test : Grows none X (calls_of f e) (two_given d) m1 = grows_open (first_of_two (Exits w c.labels) d.labels (d.labels + 1)) (grows_test f d.labels false e (two_given d)) in
       let first : Grows (others w.other l a) X (statement_calls f a) m1 m2 = grows_open (λ x z. inr (inr z)) (stmt_grows u c f w l a m1 h.1) in
-      let over : Grows none X [] m2 m3 = grows_open (second_of_two (Exits w c.labels) d.labels (d.labels + 1)) (grows_jump (d.labels + 1) m2) in
+      let over : Grows none X [] m2 m3 = grows_open (second_of_two (Exits w c.labels) d.labels (d.labels + 1)) (grows_way (is_empty b) (d.labels + 1) m2) in
       let second : Grows (others w.other (case_behind l a) b) X (statement_calls f b) m4 m5 = grows_open (λ x z. inr (inr z)) (stmt_grows u c f w (case_behind l a) b m4 h.2) in
       grows_given {e = two_given d} refl (close_two d.labels (d.labels + 1) (omega (arith, one_same d.labels)) (omega (arith, one_same (d.labels + 1))) (λ x z. omega (arith, z))
       (grows_then test (grows_then first (grows_then over (grows_then (grows_label d.labels m3) (grows_behind second (grows_label (d.labels + 1) m5)))))))
@@ -362,3 +367,16 @@ mutual
   pub stmts_grow : (u : UnitTy) (c : Context) (f : Framed) (w : Ways) (l : ℕ) (ss : Stmts) (d : Drafted) → AreStmts u c ss → Grows (others_in w.other l ss) (Exits w c.labels) (statements_calls f ss) d (with_stmts f w l ss d)
   stmts_grow u c f w l no_stmts d h = grows_same d
   stmts_grow u c f w l (and_stmts a ss) d h = grows_then (stmt_grows u c f w l a d h.0) (stmts_grow u c f w (case_behind l a) ss (with_stmt f w l a d) h.1)
+
+-- ---- what stands last
+
+mutual
+  pub last_grows : (u : UnitTy) (c : Context) (f : Framed) (w : Ways) (l : ℕ) (s : Stmt) (d : Drafted) → IsStmt u c s → Grows (others w.other l s) (Exits w c.labels) (statement_calls f s) d (with_last f w l s d)
+  last_grows u c f w l (block os ss) d h = lasts_grow u c f w l ss d h.1
+  last_grows u c f w l (return e) d h = grows_maybe f e d
+  last_grows u c f w l a d h = stmt_grows u c f w l a d h
+
+  lasts_grow : (u : UnitTy) (c : Context) (f : Framed) (w : Ways) (l : ℕ) (ss : Stmts) (d : Drafted) → AreStmts u c ss → Grows (others_in w.other l ss) (Exits w c.labels) (statements_calls f ss) d (with_lasts f w l ss d)
+  lasts_grow u c f w l no_stmts d h = grows_same d
+  lasts_grow u c f w l (and_stmts a no_stmts) d h = grows_then (last_grows u c f w l a d h.0) (grows_same (with_last f w l a d))
+  lasts_grow u c f w l (and_stmts a (and_stmts b ss)) d h = grows_then (stmt_grows u c f w l a d h.0) (lasts_grow u c f w (case_behind l a) (and_stmts b ss) (with_stmt f w l a d) h.1)
