@@ -10,6 +10,7 @@ use Rattle.c65_csem.specs.declared.stmt.TStmt.{TStmt}
 use Rattle.c65_csem.specs.declared.stmt.TStmt.TheVariants as s
 use Rattle.c65_csem.specs.Views.{typed_of, node_of, nodes_of, stmt_of, stmts_of}
 use Rattle.c65_csem.proofs.RowLaws.{node_of_call, stmt_of_block}
+use Rattle.c65_csem_plain.specs.Arms.{has_few_arms, have_few_arms}
 use Rattle.c65_csem_plain.specs.Body.{objects_of, objects_in}
 use Rattle.c65_csem_plain.specs.Tests
 
@@ -26,6 +27,11 @@ pub block_stmt : (u : UnitTy) (own : List ℕ) (k : TStmt) (os : Vec ℕ) (v : V
 block_stmt u own k os v ys is list =
     ap (λ (zs : List TStmt). Tests.are_plain_stmts u own (stmts_of zs)) list
     ∙ sym (ap (λ (j : TStmt). Tests.is_plain_stmt u own (stmt_of j)) is ∙ ap (Tests.is_plain_stmt u own) (stmt_of_block os v))
+
+pub block_arms : (n : ℕ) (k : TStmt) (os : Vec ℕ) (v : Vec TStmt) (ys : List TStmt) → k ≡ s.Block os v → ys ≡ v.items → have_few_arms n (stmts_of ys) ≡ has_few_arms n (stmt_of k)
+block_arms n k os v ys is list =
+    ap (λ (zs : List TStmt). have_few_arms n (stmts_of zs)) list
+    ∙ sym (ap (λ (j : TStmt). has_few_arms n (stmt_of j)) is ∙ ap (has_few_arms n) (stmt_of_block os v))
 
 block_objects : (k : TStmt) (os : Vec ℕ) (v : Vec TStmt) (ns : List ℕ) (ys : List TStmt) → k ≡ s.Block os v → ns ≡ os.items → ys ≡ v.items → (ns ++ objects_in (stmts_of ys)) ≡ objects_of (stmt_of k)
 block_objects k os v ns ys is numbers list =

@@ -1,3 +1,4 @@
+mod ArmLaws
 pub mod BodyLaws
 mod CodeLaws
 pub mod PlainLaws

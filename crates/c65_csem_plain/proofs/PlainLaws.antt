@@ -23,6 +23,7 @@ use Rattle.c65_csem_plain.specs.Plain.{AreBytes, IsByte, ArePaired, BeginsPlain,
 use Rattle.c65_csem_plain.specs.Tests as b
 use Rattle.c65_csem_plain.specs.declared.initial.Awaited.{Awaited}
 use Rattle.c65_csem_plain.specs.declared.initial.Awaited.TheVariants.{Any, High, Never}
+use Rattle.c65_csem_plain.proofs.ArmLaws.{says_few}
 use Rattle.c65_csem_plain.proofs.OnceLaws.{once_yes, once_only}
 use Rattle.c65_csem_plain.proofs.BodyLaws.{Says, says_le, says_bytes, says_stmt}
 
@@ -141,9 +142,9 @@ says_labels ls = tells_all b.are_labels (λ l. nat_lt l 4294967295) (λ l. l + 1
 
 module _ (u : UnitTy) where
   says_body : (params : List ℕ) (body : Stmt) → Says (b.is_plain_body u params body) (IsPlainBody u params body)
-  says_body params body = like (three (tells_distinct (params ++ objects_of body)) (says_labels (labels_of body)) (says_stmt u (objects_of body) body))
-      (λ h. record { objects = h.0; labels = h.1; stmts = h.2 })
-      (λ w. (w.objects, w.labels, w.stmts))
+  says_body params body = like (four (tells_distinct (params ++ objects_of body)) (says_labels (labels_of body)) (says_few body) (says_stmt u (objects_of body) body))
+      (λ h. record { objects = h.0; labels = h.1; arms = h.2; stmts = h.3 })
+      (λ w. (w.objects, w.labels, w.arms, w.stmts))
 
   says_has_body : (params : List ℕ) (body : Option Stmt) → Says (b.has_plain_body u params body) (HasPlainBody u params body)
   says_has_body params None = tells_unit

@@ -1,3 +1,4 @@
+pub mod Arms
 pub mod Body
 pub mod Plain
 pub mod Tests

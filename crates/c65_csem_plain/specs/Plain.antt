@@ -11,6 +11,7 @@ use Rattle.c65_csem.specs.declared.items.Class.TheVariants.{External, Tentative,
 use Rattle.c65_csem.specs.Library.{library_at}
 use Rattle.c65_csem.specs.Statements.{IsDistinct, labels_of}
 use Rattle.c65_csem.specs.Trees.{Stmt, ObjectTy, FuncTy, UnitTy}
+use Rattle.c65_csem_plain.specs.Arms.{arms, most_arms}
 use Rattle.c65_csem_plain.specs.Body.{HasBytes, IsPlainStmt, objects_of}
 
 -- ---- bytes
@@ -36,10 +37,11 @@ BeginsPlain (Some cells) = All IsByte cells × ArePaired cells
 -- ---- functions
 
 module _ (u : UnitTy) where
-  -- each object, also one without a name, is a parameter or that of one block, and each label has a number of its type with room for one more
+  -- each object, also one without a name, is a parameter or that of one block, each label has a number of its type with room for one more, and no more than the most first arms stand one within the other
   pub record IsPlainBody (params : List ℕ) (body : Stmt) : Type 0 where
     pub objects : IsDistinct (params ++ objects_of body)
     pub labels : All (λ l. l + 1 < 2 ^ 32) (labels_of body)
+    pub arms : arms body ≤ most_arms
     pub stmts : IsPlainStmt u (objects_of body) body
 
   abbrev pub HasPlainBody : List ℕ → Option Stmt → Type 0

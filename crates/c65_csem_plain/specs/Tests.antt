@@ -20,6 +20,7 @@ use Rattle.c65_csem.specs.Places.{is_scalar, is_tag}
 use Rattle.c65_csem.specs.Statements.{labels_of}
 use Rattle.c65_csem.specs.Trees.{Typed, node, Node, constant, null, literal, object, func, deref, member, load, address, decay, convert, unary, binary, both, either, choice, comma, assign, assign_op, assign_step, step, copy, call, pack, spill, rest, Nodes, none, some, type_of, Stmt, empty, eval, set_part, clear, block, if_stmt, while, do_while, for_loop, switch, case, default, label, goto, break, continue, return, Stmts, no_stmts, and_stmts, MaybeTyped, absent, present, ObjectTy, FuncTy, UnitTy}
 use Rattle.c65_csem_check.specs.Statements.{measured, has_number, are_distinct, same_value}
+use Rattle.c65_csem_plain.specs.Arms.{has_few_arms}
 use Rattle.c65_csem_plain.specs.Body.{objects_of}
 use Rattle.c65_csem_plain.specs.Plain.{is_external, all_own_objects}
 use Rattle.c65_csem_plain.specs.declared.initial.Awaited.{Awaited}
@@ -159,7 +160,7 @@ are_labels (l ∷ ls) = if nat_lt l 4294967295 then are_labels ls else false
 
 module _ (u : UnitTy) where
   abbrev pub is_plain_body : List ℕ → Stmt → Bool
-  is_plain_body params body = are_distinct (params ++ objects_of body) && are_labels (labels_of body) && is_plain_stmt u (objects_of body) body
+  is_plain_body params body = are_distinct (params ++ objects_of body) && are_labels (labels_of body) && has_few_arms 0 body && is_plain_stmt u (objects_of body) body
 
   abbrev pub has_plain_body : List ℕ → Option Stmt → Bool
   has_plain_body params None = true

@@ -3,6 +3,7 @@ ghost use Rattle.std.specs.Prelude.{◌≡◌, IfOk};
 ghost use Rattle.c65_csem.specs.Views.{func_of, stmt_of, unit_of};
 ghost use Rattle.c65_csem_plain.specs.Tests;
 
+use crate::arms::has_few_arms;
 use crate::names::is_named;
 use crate::stmts::{add_objects, is_plain_stmt};
 use c65_base::Names;
@@ -36,7 +37,12 @@ fn is_plain_body(
     objects.extend_from_slice(&own)?;
     let mut labels = Vec::new(alloc);
     add_labels(body, &mut labels)?;
-    Ok(are_distinct(&objects) && are_labels(&labels) && is_plain_stmt(parts, &own, body))
+    Ok(
+        are_distinct(&objects)
+            && are_labels(&labels)
+            && has_few_arms(0, body)
+            && is_plain_stmt(parts, &own, body),
+    )
 }
 
 fn has_plain_body(alloc: Global, parts: &Parts, func: &TFunc) -> Result<bool, AllocError>

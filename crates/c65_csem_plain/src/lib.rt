@@ -5,6 +5,7 @@
 #![tactic(auto)]
 
 mod apart;
+mod arms;
 mod exprs;
 mod funcs;
 mod initial;
