@@ -1,20 +1,18 @@
 -- Comparisons with a right side that is read where it lies.
 use Rattle.std.proofs.Common.{◌≡◌, ℕ, ◌+◌, ◌*◌, ◌/◌, ◌%◌, ◌<◌, ◌≤◌, max, List, ◌∷◌, ◌++◌, length, ℤ, Bool, true, false, Option, Some, None, refl, sym, ap, ◌∙◌, subst, arith, length-append}
-use Rattle.std.specs.Prelude.{◌==◌, not, nat_lt, nat_le, if◌then◌else◌, Result, Ok, Err}
+use Rattle.std.specs.Prelude.{◌==◌, not, nat_lt, nat_le, if◌then◌else◌, Ok}
 use Rattle.std.specs.Bool.{beq}
 use Rattle.std.proofs.lemmas.Bool.Decides.{nat_tests}
 use Rattle.c65_base.specs.declared.operators.BinaryOp.{BinaryOp}
 use Rattle.c65_base.specs.declared.operators.BinaryOp.TheVariants as ops
 use Rattle.c65_ints.specs.declared.types.IntType.{IntType}
 use Rattle.c65_ints.specs.Ranges.{is_signed_of, InRange}
-use Rattle.c65_meaning.specs.Why.{Why}
 use Rattle.c65_meaning.specs.Integers.{truth}
 use Rattle.c65_meaning.specs.Store.{Value, Whole, Number}
 use Rattle.c65_meaning.specs.Fits.{Fits}
 use Rattle.c65_meaning.specs.Items.{Item, Apply2}
-use Rattle.c65_meaning.specs.Operators.{calculated, binary}
+use Rattle.c65_meaning.specs.Operators.{calculated}
 use Rattle.c65_meaning.specs.State.{Scene, Running}
-use Rattle.c65_meaning.specs.Step.{go_on}
 use Rattle.c65_code.specs.declared.line.Line.{Line}
 use Rattle.c65_code.specs.declared.routine.Width.{Width}
 use Rattle.c65_code.specs.declared.routine.Width.TheVariants.{Ax, Eax}
@@ -38,25 +36,22 @@ use Rattle.c65_genexpr.specs.Comparing.{relation_by}
 use Rattle.c65_agree_store.specs.Stands.{Placing, Banks}
 use Rattle.c65_agree_numbers.specs.Words.{word_of}
 use Rattle.c65_agree_numbers.proofs.Residues.{word_below}
-use Rattle.c65_agree_state.specs.World.{World, Active, lines_of, place_in, IsPlaced, HasAt, HasTurns, HasBranched}
+use Rattle.c65_agree_state.specs.World.{World, Active, lines_of, place_in, IsPlaced, HasAt, HasTurns}
 use Rattle.c65_agree_state.specs.Follows.{Follows}
-use Rattle.c65_agree_state.specs.Exprs.{Ready, Valued, MayFit, ResultIs, Done}
-use Rattle.c65_agree_state.proofs.Followed.{follows_weaken, steps_earn, ready_is_calm}
+use Rattle.c65_agree_state.specs.Exprs.{Ready, Valued, ResultIs, Done}
+use Rattle.c65_agree_state.proofs.Followed.{follows_weaken}
 use Rattle.c65_agree_state.proofs.Nodes.{has_front, has_back, ready_stays}
-use Rattle.c65_agree_state.proofs.Parts.{kept_goes_on}
-use Rattle.c65_agree_rows.proofs.Quiet.{nothing_follows}
 use Rattle.c65_agree_load.proofs.Kept.{is_on}
+use Rattle.c65_agree_load.proofs.Objects.{may_fit}
 use Rattle.c65_agree_direct.specs.Operands.{byte_in, MayRead, register_bytes, HasBytes}
 use Rattle.c65_agree_direct.specs.Laws.{IsReadInPlace}
 use Rattle.c65_agree_operate.specs.Manners.{Manner, IsLeft, DoesIn}
 use Rattle.c65_agree_operate.specs.Laws.{on_numbers}
-use Rattle.c65_agree_operate.proofs.Manners.{left_then, left_held}
-use Rattle.c65_agree_operate.proofs.Given.{IsCalculated, is_calculated}
-use Rattle.c65_agree_operate.proofs.Exact.{registers_kept, registers_held}
-use Rattle.c65_agree_compare.specs.Branches.{end_of, RestOfSettled, SettlesIn}
+use Rattle.c65_agree_compare.specs.Branches.{RestOfSettled, SettlesIn}
 use Rattle.c65_agree_compare.specs.Laws.{IsEqual, IsOrder, EqualWordsSettle, OrderedWordsSettle}
 use Rattle.c65_agree_compare.proofs.Ways.{LeadsBy}
-use Rattle.c65_agree_compare.proofs.Stacked.{compared, word_in, word_given}
+use Rattle.c65_agree_compare.proofs.Stacked.{word_in, word_given}
+use Rattle.c65_agree_compare.proofs.Last.{settled_follows}
 use Rattle.c65_agree_compare.proofs.Orders.{holds, order_leads}
 use Rattle.c65_agree_compare.proofs.Equal.{OnlyRegs, equal_leads, other_leads}
 
@@ -70,37 +65,13 @@ module _ (g : World) (a : Active) (m : Manner) (op : BinaryOp) (t : IntType) (s 
     ends : p + length left + length ls ≡ p + length (left ++ ls)
     ends = omega (arith, length-append left ls)
 
-    abbrev more : ℕ
-    more = weight + 2600 + m.over + 4000 + 4000
-
-    of_numbers : (o : ℕ) → o < n → (x : Value) → IsCalculated op t va vb x → Follows g o more (Running k (x ∷ vs) c1) (place_in g a (p + length left)) s1 seen
-    of_numbers o lt x h =
-        let fits1 : InRange t h.a = subst (MayFit Valued (Number t)) h.left done1.fits in
-        let fits2 : InRange t h.b = subst (Fits (Number t)) h.right fit in
-        let result1 : primary_of (width_of t) s1 ≡ word_of t h.a = subst (λ v. ResultIs Valued w1 (width_of t) v s1) h.left done1.result in
-        let bytes2 : HasBytes g c1.store w1 s1 (width_of t) d (Whole h.b) = subst (HasBytes g c1.store w1 s1 (width_of t) d) h.right bytes in
-        let truth_is = compared op t h.a h.b h.z compares h.is in
-        let y : Bool = truth_is.0 in
-        let value : Running k (Whole (truth y) ∷ vs) c1 ≡ Running k (x ∷ vs) c1 = ap (λ v. Running k (v ∷ vs) c1) (ap Whole (sym truth_is.1) ∙ sym h.result) in
-        let gives : calculated op t h.a h.b ≡ Ok (Whole (truth y)) = h.is ∙ ap (λ v. Ok (Whole v)) truth_is.1 in
-        subst (λ z. Follows g o more z (place_in g a (p + length left)) s1 seen) value
-        (follows_weaken g o (60 + (weight + 2700 + m.over)) more (Running k (Whole (truth y) ∷ vs) c1) (place_in g a (p + length left)) s1 seen (omega arith)
-        (leads c1 w1 b1 s1 h.a h.b y ready1 result1 bytes2 fits1 fits2 gives o (weight + 2700 + m.over) (p + length left) c1.turns (Running k (Whole (truth y) ∷ vs) c1) seen has turned (λ x2 after only come.
-        let kept = kept_goes_on g a c c1 c1 w w1 w1 b b1 b1 r s1 x2 done1.kept (registers_kept g a pushed more_needs c1 w1 b1 s1 x2 placed ready1 only.0 only.1) in
-        let gone = left_then m c c1 c1 r s1 x2 left1 (left_held m c1 s1 x2 (registers_held s1 x2 only.0)) in
-        subst (λ q. Follows g o (weight + 2700 + m.over) (Running k (Whole (truth y) ∷ vs) c1) (place_in g a (end_of g a (beq y s) to q)) x2 after) (sym ends)
-        (rest o y c1 w1 b1 x2 after lt kept gone (subst (λ q. HasBranched g (beq y s) c1.turns (place_in g a (end_of g a (beq y s) to q)) after) ends come)))))
-
-    stepped : (o : ℕ) → o < n → (x : Result Value Why) → binary c1.store op (Number t) (Number t) va vb ≡ x → Follows g o more (go_on x k vs c1) (place_in g a (p + length left)) s1 seen
-    stepped o lt (Err why) e = nothing_follows g why o more (place_in g a (p + length left)) s1 seen
-    stepped o lt (Ok x) e = of_numbers o lt x (is_calculated c1.store op t t va vb x e)
-
     followed : (i : ℕ) → i ≤ n → Follows g i (weight + 2600 + m.over + 4000) (Running (Apply2 op (Number t) (Number t) ∷ k) (vb ∷ va ∷ vs) c1) (place_in g a (p + length left)) s1 seen
     followed i le =
-        steps_earn g i (weight + 2600 + m.over + 4000) (Apply2 op (Number t) (Number t)) k (vb ∷ va ∷ vs) c1 (place_in g a (p + length left)) s1 seen (ready_is_calm g a pushed more_needs c1 w1 b1 s1 ready1).calm ready1.joins.output ready1.joins.ended (omega (arith, turned)) (λ o less.
-        stepped o (omega (arith, le, less)) (binary c1.store op (Number t) (Number t) va vb) refl)
+        settled_follows g a m op t s to placed compares pushed more_needs n weight (p + length (left ++ ls)) (p + length left) ls ends k vs c w b r rest has c1 w1 b1 s1 ready1 done1.kept left1 va vb done1.fits (may_fit (Number t) vb fit)
+        (λ x z y e f fits1 fits2 gives. leads c1 w1 b1 s1 x z y ready1 (subst (λ v. ResultIs Valued w1 (width_of t) v s1) e done1.result) (subst (HasBytes g c1.store w1 s1 (width_of t) d) f bytes) fits1 fits2 gives)
+        seen turned (weight + 2600 + m.over + 4000) (omega arith) i le
 
-  left_settles : DoesIn g a m Valued (Number t) first needs pushed left → SettlesIn g a m s to (on_numbers op t t first second) (max needs (1 + more_needs)) pushed (left ++ ls)
+  pub left_settles : DoesIn g a m Valued (Number t) first needs pushed left → SettlesIn g a m s to (on_numbers op t t first second) (max needs (1 + more_needs)) pushed (left ++ ls)
   left_settles before n weight p k vs c w b r seen has ready turns rest =
       let ready0 : Ready g a pushed needs c w b r = record { joins = ready.joins; sp = ready.sp; room = omega (arith, ready.room); none_pushed = ready.none_pushed } in
       before n weight p (second (Apply2 op (Number t) (Number t) ∷ k)) vs c w b r seen (has_front (lines_of g a) p left ls has) ready0 turns (λ j va c1 w1 b1 s1 seen1 lt done1 left1 turned1.
@@ -121,18 +92,18 @@ pair_is (Some l) (Some h) low high e =
 pair_is (Some l) None low high e = absurd (cc)
 pair_is None y low high e = absurd (cc)
 
-record HasPair (g : World) (u : State) (low high : OperandByte) (n : ℕ) : Type 0 where
-  may : MayRead g u low
-  may2 : MayRead g u high
-  small : byte_in g u low < 256
-  small2 : byte_in g u high < 256
-  word : byte_in g u low + 256 * byte_in g u high ≡ n
+pub record HasPair (g : World) (u : State) (low high : OperandByte) (n : ℕ) : Type 0 where
+  pub may : MayRead g u low
+  pub may2 : MayRead g u high
+  pub small : byte_in g u low < 256
+  pub small2 : byte_in g u high < 256
+  pub word : byte_in g u low + 256 * byte_in g u high ≡ n
 
 two_bytes : (width : Width) → 1 < register_bytes width
 two_bytes Ax = omega arith
 two_bytes Eax = omega arith
 
-has_pair : (g : World) (c : Scene) (w : Placing) (u : State) (t : IntType) (d : Direct) (low high : OperandByte) (q : ℤ) → sides_of Ax d ≡ Some (Word low high) → width_of t ≡ Ax → HasBytes g c.store w u (width_of t) d (Whole q) → HasPair g u low high (word_of t q)
+pub has_pair : (g : World) (c : Scene) (w : Placing) (u : State) (t : IntType) (d : Direct) (low high : OperandByte) (q : ℤ) → sides_of Ax d ≡ Some (Word low high) → width_of t ≡ Ax → HasBytes g c.store w u (width_of t) d (Whole q) → HasPair g u low high (word_of t q)
 has_pair g c w u t d low high q pair narrow bytes =
     let two = pair_is (operand_of d 0) (operand_of d 1) low high pair in
     let low_is = bytes.bytes 0 low (omega (arith, two_bytes (width_of t))) two.first in
@@ -162,7 +133,7 @@ record IsEquality (op : BinaryOp) (r : Relation) : Type 0 where
   is : op ≡ equality equal
   relation_is : r ≡ relation equal
 
-some_is : (x r : Relation) → Some x ≡ Some r → r ≡ x
+pub some_is : (x r : Relation) → Some x ≡ Some r → r ≡ x
 some_is x r e = cc
 
 no_order : (x r : Relation) → Some x ≡ Some r → (IsEqual x → ⊥) → IsEqual r → ⊥
@@ -256,7 +227,7 @@ equal_words_settle g a m op r t d low high is_signed s to own needs more_needs p
 
 -- ---- orders without sign
 
-order_compares : (op : BinaryOp) (r : Relation) → relation_of op ≡ Some r → is_comparison op ≡ true
+pub order_compares : (op : BinaryOp) (r : Relation) → relation_of op ≡ Some r → is_comparison op ≡ true
 order_compares ops.Eq r e = refl
 order_compares ops.Ne r e = refl
 order_compares ops.Lt r e = refl
@@ -274,7 +245,7 @@ order_compares ops.BitAnd r e = absurd (cc)
 order_compares ops.BitXor r e = absurd (cc)
 order_compares ops.BitOr r e = absurd (cc)
 
-some_truth : (x y : Bool) → Some (numbers.truth x) ≡ Some (word_in y) → x ≡ y
+pub some_truth : (x y : Bool) → Some (numbers.truth x) ≡ Some (word_in y) → x ≡ y
 some_truth x y e = let same : numbers.truth x ≡ word_in y = cc in truth_is x y same
 
 module _ (t : IntType) (p q : ℤ) (y : Bool) (plain : is_signed_of t ≡ false) (left : InRange t p) (right : InRange t q) where
@@ -302,7 +273,7 @@ module _ (t : IntType) (p q : ℤ) (y : Bool) (plain : is_signed_of t ≡ false)
   words_ordered ops.BitXor r e o h = absurd (cc)
   words_ordered ops.BitOr r e o h = absurd (cc)
 
-below_not : (m n : ℕ) → nat_le n m ≡ not (nat_lt m n)
+pub below_not : (m n : ℕ) → nat_le n m ≡ not (nat_lt m n)
 below_not m n = go (nat_lt m n) refl
   where
     go : (b : Bool) → nat_lt m n ≡ b → nat_le n m ≡ not b
@@ -316,7 +287,7 @@ most_not m n = go (nat_le n m) refl
     go true e = grind (arith, nat_tests)
     go false e = grind (arith, nat_tests)
 
-negated_holds : (r : Relation) (m n : ℕ) → IsOrder r → holds (negated r) m n ≡ not (holds r m n)
+pub negated_holds : (r : Relation) (m n : ℕ) → IsOrder r → holds (negated r) m n ≡ not (holds r m n)
 negated_holds Less m n o = below_not m n
 negated_holds NotLess m n o = most_not m n
 negated_holds Greater m n o = below_not n m
@@ -324,7 +295,7 @@ negated_holds NotGreater m n o = most_not n m
 negated_holds Equal m n o = absurd o
 negated_holds Unequal m n o = absurd o
 
-is_order : (s : Bool) (r : Relation) → IsOrder r → IsOrder (relation_by s r)
+pub is_order : (s : Bool) (r : Relation) → IsOrder r → IsOrder (relation_by s r)
 is_order true r o = o
 is_order false Less o = tt
 is_order false NotLess o = tt
@@ -339,7 +310,7 @@ by_sense_holds true r m n false o e = e
 by_sense_holds false r m n true o e = negated_holds r m n o ∙ ap not e
 by_sense_holds false r m n false o e = negated_holds r m n o ∙ ap not e
 
-order_lines_are : (r : Relation) (low high : OperandByte) (own to : ℕ) → IsOrder r → compare_code r false (Word low high) own to ≡ difference_code r (Word low high) ++ order_code r false own to
+pub order_lines_are : (r : Relation) (low high : OperandByte) (own to : ℕ) → IsOrder r → compare_code r false (Word low high) own to ≡ difference_code r (Word low high) ++ order_code r false own to
 order_lines_are Less low high own to o = refl
 order_lines_are NotLess low high own to o = refl
 order_lines_are Greater low high own to o = refl

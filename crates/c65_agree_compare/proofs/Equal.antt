@@ -26,14 +26,14 @@ use Rattle.c65_agree_compare.proofs.Ways.{LeadsBy, by_then, branch_by, early_by,
 
 -- ---- bytes
 
-abbrev apart : ℕ → ℕ → Bool
+abbrev pub apart : ℕ → ℕ → Bool
 apart m n = (m + 256 - n) % 256 == 0
 
 -- no difference between two bytes
-same_bytes : (m n : ℕ) → m < 256 → n < 256 → apart m n ≡ true → m ≡ n
+pub same_bytes : (m n : ℕ) → m < 256 → n < 256 → apart m n ≡ true → m ≡ n
 same_bytes m n lt lt2 e = let h : (m + 256 - n) % 256 ≡ 0 = eqb-true ((m + 256 - n) % 256) 0 e in omega (arith, h, lt, lt2)
 
-other_bytes : (m n : ℕ) → apart m n ≡ false → m ≡ n → ⊥
+pub other_bytes : (m n : ℕ) → apart m n ≡ false → m ≡ n → ⊥
 other_bytes m n e h =
     let none : (m + 256 - n) % 256 ≡ 0 = omega (arith, h) in
     let f : apart m n ≡ true = ap (λ (d : ℕ). d == 0) none in

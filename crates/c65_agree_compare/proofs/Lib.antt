@@ -7,6 +7,7 @@ pub mod Stacked
 pub mod Zeros
 pub mod Ways
 pub mod Equal
+pub mod Last
 pub mod Orders
 pub mod Directs
 pub mod Lines

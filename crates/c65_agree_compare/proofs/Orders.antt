@@ -1,10 +1,10 @@
 -- Orders of AX and a word without sign that is read where it lies.
-use Rattle.std.proofs.Common.{◌≡◌, ℕ, ◌+◌, ◌-◌, ◌*◌, ◌<◌, ◌≤◌, List, [], ◌∷◌, ◌++◌, Bool, true, false, refl, sym, ap, ◌∙◌, subst, arith}
-use Rattle.std.specs.Prelude.{not, nat_lt, nat_le}
+use Rattle.std.proofs.Common.{◌≡◌, ℕ, ◌+◌, ◌-◌, ◌*◌, ◌%◌, ◌<◌, ◌≤◌, List, [], ◌∷◌, ◌++◌, Bool, true, false, refl, sym, ap, ◌∙◌, subst, arith}
+use Rattle.std.specs.Prelude.{not, nat_lt, nat_le, bit_and, bit_xor}
 use Rattle.std.proofs.lemmas.Bool.{ltb-true, ltb-false}
 use Rattle.std.proofs.lemmas.Bool.Decides.{nat_tests}
 use Rattle.c65_mach.specs.State.{Regs}
-use Rattle.c65_mach.specs.Step.{apply, bit, is_not, is_taken}
+use Rattle.c65_mach.specs.Step.{apply, bit, negative, is_not, is_taken}
 use Rattle.c65_mach.specs.declared.rows.Op.TheVariants.{Clc, Cmp, Sbc, Txa}
 use Rattle.c65_code.specs.declared.line.Line.{Line}
 use Rattle.c65_code.specs.declared.line.Line.TheVariants.{Label}
@@ -36,12 +36,12 @@ holds Greater m n = nat_lt n m
 holds _ m n = nat_le m n
 
 -- whether the lines begin without the carry
-abbrev begins : Relation → ℕ → ℕ → Bool
+abbrev pub begins : Relation → ℕ → ℕ → Bool
 begins Greater a l = nat_lt 255 (a + (255 - l) + 0)
 begins NotGreater a l = nat_lt 255 (a + (255 - l) + 0)
 begins r a l = nat_lt l (a + 1)
 
-abbrev carried : Relation → ℕ → ℕ → ℕ → ℕ → Bool
+abbrev pub carried : Relation → ℕ → ℕ → ℕ → ℕ → Bool
 carried r a x l h = nat_lt 255 (x + (255 - h) + bit (begins r a l))
 
 module _ (a x l h : ℕ) (a_byte : a < 256) (x_byte : x < 256) (l_byte : l < 256) (h_byte : h < 256) where
@@ -88,14 +88,29 @@ module _ (a x l h : ℕ) (a_byte : a < 256) (x_byte : x < 256) (l_byte : l < 256
   carry_tells Unequal o s e = absurd o
 
 -- registers alone are others, with such a carry
-record HasCarry (t : State) (x : ℕ) (carry : Bool) (u : State) : Type 0 where
-  only : u ≡ at_regs t u.regs
-  x_is : u.regs.x ≡ x
-  c : u.regs.c ≡ carry
-  bytes : IsBytes u
+pub record HasCarry (t : State) (x : ℕ) (carry : Bool) (u : State) : Type 0 where
+  pub only : u ≡ at_regs t u.regs
+  pub x_is : u.regs.x ≡ x
+  pub c : u.regs.c ≡ carry
+  pub bytes : IsBytes u
 
 has_carry : (t : State) (s : Regs) (u : State) → To t s u → HasCarry t s.x s.c u
 has_carry t s u h = let regs : u.regs ≡ s = ap (λ (z : State). z.regs) h.0 in record { only = h.0 ∙ ap (at_regs t) (sym regs); x_is = ap (λ (r : Regs). r.x) regs; c = ap (λ (r : Regs). r.c) regs; bytes = h.1 }
+
+-- the highest byte of a difference, and whether that overflows as a signed number
+abbrev pub last_byte : ℕ → ℕ → Bool → ℕ
+last_byte x h c = (x + (255 - h) + bit c) % 256
+
+abbrev pub overflows : ℕ → ℕ → Bool → Bool
+overflows x h c = negative (bit_and (bit_xor x (last_byte x h c)) (bit_xor (255 - h) (last_byte x h c)))
+
+-- registers alone are others, and A and the flags those of the difference of AX and a word
+pub record IsDifference (r : Relation) (l h : ℕ) (t u : State) : Type 0 where
+  pub only : OnlyRegs t u
+  pub c : u.regs.c ≡ carried r t.regs.a t.regs.x l h
+  pub a : u.regs.a ≡ last_byte t.regs.x h (begins r t.regs.a l)
+  pub n : u.regs.n ≡ negative (last_byte t.regs.x h (begins r t.regs.a l))
+  pub v : u.regs.v ≡ overflows t.regs.x h (begins r t.regs.a l)
 
 module _ (g : World) (a : Active) (t : State) (on_place : IsPlacement g.code g.place) (on : IsOn g t) (to label : ℕ) (low high : OperandByte) (may : MayRead g t low) (may2 : MayRead g t high) (small : byte_in g t low < 256) (small2 : byte_in g t high < 256) where
   abbrev AfterLow : Relation → State → Type 0
@@ -111,7 +126,7 @@ module _ (g : World) (a : Active) (t : State) (on_place : IsPlacement g.code g.p
       leads_from g a (op_of Sbc low) 2 t u clear (AfterLow Greater) h (λ b.
       leads_as g a (op_of Sbc low) 2 2 (at_regs t clear) (To t (on_byte g t Subtracts low clear)) (AfterLow Greater) (omega arith) (λ v e. has_carry t (on_byte g t Subtracts low clear) v e) (operand_leads g a t on_place on Subtracts low clear may b)))
 
-  low_leads : (r : Relation) → IsOrder r → Leads g a (lowest_code r low) 3 t (AfterLow r)
+  pub low_leads : (r : Relation) → IsOrder r → Leads g a (lowest_code r low) 3 t (AfterLow r)
   low_leads Less o = compared_low
   low_leads NotLess o = compared_low
   low_leads Greater o = taken_low
@@ -120,21 +135,31 @@ module _ (g : World) (a : Active) (t : State) (on_place : IsPlacement g.code g.p
   low_leads Unequal o = absurd o
 
   abbrev AfterHigh : Relation → State → Type 0
-  AfterHigh r u = (OnlyRegs t u) × (u.regs.c ≡ carried r t.regs.a t.regs.x (byte_in g t low) (byte_in g t high))
+  AfterHigh r = IsDifference r (byte_in g t low) (byte_in g t high) t
 
   high_leads : (r : Relation) (u : State) → AfterLow r u → Leads g a (implied Txa ∷ op_of Sbc high) 3 u (AfterHigh r)
   high_leads r u h =
       let s : Regs = u.regs in
       let moved : Regs = apply false Txa 0 s in
       let last : Regs = on_byte g t Subtracts high moved in
+      let byte : ℕ = byte_in g t high in
       let all : IsBytes (at_regs t s) = subst IsBytes h.only h.bytes in
       leads_from g a (implied Txa ∷ op_of Sbc high) 3 t u s (AfterHigh r) (h.only, h.bytes) (λ b.
       leads_then g a (implied Txa ∷ []) (op_of Sbc high) 1 2 (at_regs t s) (To t moved) (AfterHigh r) (implied_leads g a t on_place on Txa refl s b) (λ v e.
       leads_from g a (op_of Sbc high) 2 t v moved (AfterHigh r) e (λ b2.
       leads_as g a (op_of Sbc high) 2 2 (at_regs t moved) (To t last) (AfterHigh r) (omega arith) (λ z f.
       let k = has_carry t last z f in
-      ((k.only, k.bytes), k.c ∙ ap (λ n. nat_lt 255 (n + (255 - byte_in g t high) + bit s.c)) h.x_is ∙ ap (λ d. nat_lt 255 (t.regs.x + (255 - byte_in g t high) + bit d)) h.c))
+      record {
+        only = (k.only, k.bytes);
+        c = k.c ∙ ap (λ n. nat_lt 255 (n + (255 - byte) + bit s.c)) h.x_is ∙ ap (λ d. nat_lt 255 (t.regs.x + (255 - byte) + bit d)) h.c;
+        a = ap (λ (i : State). i.regs.a) f.0 ∙ ap (λ n. last_byte n byte s.c) h.x_is ∙ ap (last_byte t.regs.x byte) h.c;
+        n = ap (λ (i : State). i.regs.n) f.0 ∙ ap (λ n. negative (last_byte n byte s.c)) h.x_is ∙ ap (λ d. negative (last_byte t.regs.x byte d)) h.c;
+        v = ap (λ (i : State). i.regs.v) f.0 ∙ ap (λ n. overflows n byte s.c) h.x_is ∙ ap (overflows t.regs.x byte) h.c;
+      })
       (operand_leads g a t on_place on Subtracts high moved may2 b2))))
+
+  pub difference_leads : (r : Relation) → IsOrder r → Leads g a (difference_code r (Word low high)) 6 t (AfterHigh r)
+  difference_leads r o = leads_then g a (lowest_code r low) (implied Txa ∷ op_of Sbc high) 3 3 t (AfterLow r) (AfterHigh r) (low_leads r o) (λ u h. high_leads r u h)
 
   abbrev left_word : ℕ
   left_word = t.regs.a + 256 * t.regs.x
@@ -153,10 +178,9 @@ module _ (g : World) (a : Active) (t : State) (on_place : IsPlacement g.code g.p
   -- the lines of an order without sign
   pub order_leads : (r : Relation) (y : Bool) → IsOrder r → holds r left_word right_word ≡ y → LeadsBy g a (difference_code r (Word low high) ++ order_code r false label to) 8 to y t (OnlyRegs t)
   order_leads r y o is =
-      by_then g a (difference_code r (Word low high)) (Label label ∷ branch (by_carry r) to ∷ []) 6 2 to y t (AfterHigh r) (OnlyRegs t)
-      (leads_then g a (lowest_code r low) (implied Txa ∷ op_of Sbc high) 3 3 t (AfterLow r) (AfterHigh r) (low_leads r o) (λ u h. high_leads r u h)) (λ u h.
+      by_then g a (difference_code r (Word low high)) (Label label ∷ branch (by_carry r) to ∷ []) 6 2 to y t (AfterHigh r) (OnlyRegs t) (difference_leads r o) (λ u h.
       by_then g a (Label label ∷ []) (branch (by_carry r) to ∷ []) 0 2 to y u (λ v. v ≡ u) (OnlyRegs t) (label_leads g a label u (λ v. v ≡ u) refl) (λ v same.
       subst (λ z. LeadsBy g a (branch (by_carry r) to ∷ []) 2 to y z (OnlyRegs t)) (sym same)
       (λ n2 w p turns q seen has turned k.
-      branch_by g a (by_carry r) to (formed r) u (subst (IsOn g) (sym h.0.0) (on_regs g a t on_place on u.regs (subst IsBytes h.0.0 h.0.1))) y
-      (carry_tells t.regs.a t.regs.x (byte_in g t low) (byte_in g t high) on.stacks.calm.bytes.a on.stacks.calm.bytes.x small small2 r o u.regs h.1 ∙ is) n2 w p turns q seen has turned (λ x later e come. k x later (subst (OnlyRegs t) (sym e) h.0) come))))
+      branch_by g a (by_carry r) to (formed r) u (subst (IsOn g) (sym h.only.0) (on_regs g a t on_place on u.regs (subst IsBytes h.only.0 h.only.1))) y
+      (carry_tells t.regs.a t.regs.x (byte_in g t low) (byte_in g t high) on.stacks.calm.bytes.a on.stacks.calm.bytes.x small small2 r o u.regs h.c ∙ is) n2 w p turns q seen has turned (λ x later e come. k x later (subst (OnlyRegs t) (sym e) h.only) come))))

@@ -63,6 +63,7 @@ use Rattle.c65_agree_operate.proofs.Converted.{IsBrought, convert_leads}
 use Rattle.c65_agree_operate.proofs.Given.{IsCalculated, is_calculated}
 use Rattle.c65_agree_operate.proofs.Routines.{IsPushed, push_leads, number_waits, operator_leads}
 use Rattle.c65_agree_operate.proofs.Exact.{at_regs, To, implied_leads, registers_kept}
+use Rattle.c65_agree_operate.proofs.Stacked.{over_pushed, waiting_is}
 use Rattle.c65_agree_compare.specs.Branches.{RestOfSettled, SettlesIn}
 use Rattle.c65_agree_compare.specs.Laws.{StackedComparisonsSettle}
 use Rattle.c65_agree_compare.proofs.Taken.{is_told, is_branch, branch_settles}
@@ -211,31 +212,6 @@ module _ (g : World) (a : Active) (op : BinaryOp) (t : IntType) (pushed needs : 
 
 -- ---- over both sides
 
-over_pushed : (g : World) (a : Active) (pushed needs : ℕ) (c c2 : Scene) (w w2 : Placing) (k k2 : Banks) (width : Width) (y : Bool) (t u x v : State)
-    → IsPushed g a pushed needs c w k width t u → Kept g a c w k u c2 w2 k2 x → IsCompared g a pushed needs c2 w2 k2 width y x v → Kept g a c w k t c2 w2 k2 v
-over_pushed g a pushed needs c c2 w w2 k k2 width y t u x v push h taken = record {
-  joins = taken.ready.joins;
-  sp = omega (arith, taken.sp, h.sp, push.sp);
-  frames = h.frames;
-  next = h.next;
-  bounds = h.bounds;
-  grows = h.grows;
-  kept = λ m le f. bytes m le f;
-  banks = h.banks;
-  own_bank = h.own_bank;
-  none_pushed = taken.ready.none_pushed;
-}
-  where
-    bytes : (m : ℕ) → sp_of t ≤ m → IsFree c.store w (At m) → (v.mem m ≡ t.mem m) × IsFree c2.store w2 (At m)
-    bytes m le f =
-        let one = h.kept m (omega (arith, le, push.sp)) f in
-        (taken.mem m (omega (arith, le, h.sp, push.sp)) one.1 ∙ one.0 ∙ push.mem m le, one.1)
-
--- the bytes of a value that waits
-waiting_is : (width : Width) → waiting width ≡ size_of width
-waiting_is Ax = refl
-waiting_is Eax = refl
-
 module _ (g : World) (a : Active) (m : Manner) (op : BinaryOp) (t : IntType) (s : Bool) (to own needs more_needs pushed : ℕ) (first second : List Item → List Item) (left right : List Line) (placed : IsPlacement g.code g.place) (heavy : m.light ≡ false) (few : m.over ≤ 1000) (compares : is_comparison op ≡ true) (promoted : is_promoted t ≡ true) where
   abbrev size : ℕ
   size = size_of (width_of t)
@@ -292,7 +268,7 @@ module _ (g : World) (a : Active) (m : Manner) (op : BinaryOp) (t : IntType) (s 
     waited = number_waits g a pushed more_needs c1 c3 w1 w3 b1 b3 s2 s3 (width_of t) push2.ready done3.kept ∙ push2.word
 
     kept_to : (y : Bool) (v : State) → IsCompared g a pushed more_needs c3 w3 b3 (width_of t) y s3 v → Kept g a c w b r c3 w3 b3 v
-    kept_to y v h = kept_goes_on g a c c1 c3 w w1 w3 b b1 b3 r s1 v done1.kept (over_pushed g a pushed more_needs c1 c3 w1 w3 b1 b3 (width_of t) y s1 s2 s3 v push2 done3.kept h)
+    kept_to y v h = kept_goes_on g a c c1 c3 w w1 w3 b b1 b3 r s1 v done1.kept (over_pushed g a pushed more_needs c1 c3 w1 w3 b1 b3 (width_of t) s1 s2 s3 v push2 done3.kept h.ready h.sp h.mem)
 
     left_to : (v : State) → IsLeft m c r c3 v
     left_to v = left_then m c c1 c3 r s1 v left1 (left_then m c1 c3 c3 s1 s3 v (left_heavy m c1 c3 s2 s3 s1 s3 heavy left3) (left_scene m c3 s3 v heavy))

@@ -128,13 +128,7 @@ unfolding number_in
 counted_of zero c h = absurd cc
 counted_of (suc zero) c h = sym (ap number_in h)
 counted_of (suc (suc zero)) c h = sym (ap number_in h)
-counted_of (suc (suc (suc zero))) c h = sym (ap number_in h)
-counted_of (suc (suc (suc (suc zero)))) c h = sym (ap number_in h)
-counted_of (suc (suc (suc (suc (suc zero))))) c h = sym (ap number_in h)
-counted_of (suc (suc (suc (suc (suc (suc zero)))))) c h = sym (ap number_in h)
-counted_of (suc (suc (suc (suc (suc (suc (suc zero))))))) c h = sym (ap number_in h)
-counted_of (suc (suc (suc (suc (suc (suc (suc (suc zero)))))))) c h = sym (ap number_in h)
-counted_of (suc (suc (suc (suc (suc (suc (suc (suc (suc n))))))))) c h = absurd cc
+counted_of (suc (suc (suc n))) c h = absurd cc
 
 -- Y has the number
 pub with_y : (n : ℕ) (t : State) → State

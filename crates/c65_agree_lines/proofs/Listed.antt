@@ -1,6 +1,6 @@
 -- What a draft gains by a statement.
 use Rattle.std.proofs.Common.{◌≡◌, ℕ, ◌+◌, ◌%◌, List, [], ◌∷◌, ◌++◌, Bool, true, false, Some, None, refl, sym, ap, ◌∙◌, subst, arith}
-use Rattle.std.specs.Prelude.{length}
+use Rattle.std.specs.Prelude.{◌&&◌, not, length}
 use Rattle.c65_csem.specs.Trees.{Typed, MaybeTyped, absent, present, Stmt, empty, eval, set_part, clear, block, if_stmt, while, do_while, for_loop, switch, case, default, label, goto, break, continue, return, Stmts, no_stmts, and_stmts}
 use Rattle.c65_csem.specs.Places.{is_tag}
 use Rattle.c65_csem.specs.Statements.{cases_of}
@@ -32,9 +32,9 @@ use Rattle.c65_genstmt.specs.declared.objects.Spot.{Spot}
 use Rattle.c65_genstmt.specs.declared.objects.Spot.TheVariants.{Bank, Soft, Data}
 use Rattle.c65_genstmt.specs.Jumps.{following, with_value, with_test}
 use Rattle.c65_genstmt.specs.Objects.{spot_of, object_bytes, point_code, stored_code, with_kept, with_zeros}
-use Rattle.c65_genstmt.specs.Stmts.{case_behind, ways, default_way, with_label, with_jump, two_given, three_given, with_maybe, with_effects, with_guard, with_cases, with_choice, with_stmt, with_stmts}
+use Rattle.c65_genstmt.specs.Stmts.{is_empty, case_behind, ways, default_way, returns_last, with_label, with_jump, with_way, two_given, three_given, with_maybe, with_effects, with_guard, with_cases, with_choice, with_stmt, with_stmts, with_last, with_lasts}
 use Rattle.c65_genstmt.specs.Functions.{body_room, main_code, no_lines}
-use Rattle.c65_agree_lines.specs.Lists.{kept_code, kept_uses, zeros_code, zeros_uses, maybe_code, maybe_uses, effects_code, effects_uses, guard_code, guard_uses, head_code, head_uses, stmt_code, stmt_uses, stmts_code, stmts_uses}
+use Rattle.c65_agree_lines.specs.Lists.{kept_code, kept_uses, zeros_code, zeros_uses, maybe_code, maybe_uses, effects_code, effects_uses, guard_code, guard_uses, head_code, head_uses, way_code, stmt_code, stmt_uses, stmts_code, stmts_uses, last_code, lasts_code}
 use Rattle.c65_agree_lines.specs.Laws.{Gains, StatementsAreListed, FunctionsAreListed}
 
 append_again : (xs ys zs : List Line) → (xs ++ ys) ++ zs ≡ xs ++ (ys ++ zs)
@@ -115,6 +115,11 @@ head f e a d =
     let all = behind_it d1 g (with_jump way h) (expr_code f 0 d1.labels Value e) (choice ++ jump Jmp way ∷ []) (uses None e) (given_labels + 0) (more_lines d1 (expr_code f 0 d1.labels Value e) (uses None e)) last in
     given d1 d (with_jump way h) (head_code f e a d.labels) (2 + k) (uses None e + (given_labels + 0)) (head_uses e a) refl (omega arith) (omega arith) all
 
+-- the jump over what stands between
+way : (at : Bool) (l : ℕ) (d : Drafted) → Gains d (with_way at l d) (way_code at l) 0
+way true l d = nothing d
+way false l d = plain d (jump Jmp l ∷ [])
+
 -- a label before a statement
 labelled_gains : (f : Framed) (w : Ways) (next here : ℕ) (a : Stmt) (d : Drafted) → Gains (with_label here d) (with_stmt f w next a (with_label here d)) (stmt_code f w next a d.labels) (stmt_uses f a) → Gains d (with_stmt f w next a (with_label here d)) (Label here ∷ stmt_code f w next a d.labels) (stmt_uses f a)
 labelled_gains f w next here a d g =
@@ -177,22 +182,26 @@ mutual
       let d1 = two_given d in
       let t1 = with_test f d.labels false e d1 in
       let t2 = with_stmt f w l a t1 in
-      let t3 = with_label d.labels (with_jump (d.labels + 1) t2) in
+      let at = is_empty b in
+      let over = way_code at (d.labels + 1) in
+      let t2w = with_way at (d.labels + 1) t2 in
+      let t3 = with_label d.labels t2w in
       let t4 = with_stmt f w (case_behind l a) b t3 in
       let t5 = with_label (d.labels + 1) t4 in
       let test = expr_code f 0 d1.labels (Test d.labels false) e in
       let first = stmt_code f w l a t1.labels in
-      let middle = jump Jmp (d.labels + 1) ∷ Label d.labels ∷ [] in
       let second = stmt_code f w (case_behind l a) b (t1.labels + stmt_uses f a) in
       let last = Label (d.labels + 1) ∷ [] in
       let one = stmt_gains f w l a t1 in
-      let turn : Gains t2 t3 middle 0 = record { lines_are = append_again t2.lines (jump Jmp (d.labels + 1) ∷ []) (Label d.labels ∷ []); labels_are = omega arith } in
-      let two : Gains t3 t4 second (stmt_uses f b) = subst (λ y. Gains t3 t4 (stmt_code f w (case_behind l a) b y) (stmt_uses f b)) one.labels_are (stmt_gains f w (case_behind l a) b t3) in
+      let turn = way at (d.labels + 1) t2 in
+      let count : t3.labels ≡ t1.labels + stmt_uses f a = omega (arith, one.labels_are, turn.labels_are) in
+      let two : Gains t3 t4 second (stmt_uses f b) = subst (λ y. Gains t3 t4 (stmt_code f w (case_behind l a) b y) (stmt_uses f b)) count (stmt_gains f w (case_behind l a) b t3) in
       let behind = behind_it t3 t4 t5 second last (stmt_uses f b) 0 two (plain t4 last) in
-      let rest = behind_it t2 t3 t5 middle (second ++ last) 0 (stmt_uses f b + 0) turn behind in
-      let body = behind_it t1 t2 t5 first (middle ++ (second ++ last)) (stmt_uses f a) (0 + (stmt_uses f b + 0)) one rest in
-      let all = behind_it d1 t1 t5 test (first ++ (middle ++ (second ++ last))) (uses (Some false) e) (stmt_uses f a + (0 + (stmt_uses f b + 0))) (more_lines d1 test (uses (Some false) e)) body in
-      given d1 d t5 (stmt_code f w l (if_stmt e a b) d.labels) 2 (uses (Some false) e + (stmt_uses f a + (0 + (stmt_uses f b + 0)))) (stmt_uses f (if_stmt e a b)) refl (omega arith) (omega arith) all
+      let here = behind_it t2w t3 t5 (Label d.labels ∷ []) (second ++ last) 0 (stmt_uses f b + 0) (plain t2w (Label d.labels ∷ [])) behind in
+      let rest = behind_it t2 t2w t5 over (Label d.labels ∷ (second ++ last)) 0 (0 + (stmt_uses f b + 0)) turn here in
+      let body = behind_it t1 t2 t5 first (over ++ Label d.labels ∷ (second ++ last)) (stmt_uses f a) (0 + (0 + (stmt_uses f b + 0))) one rest in
+      let all = behind_it d1 t1 t5 test (first ++ (over ++ Label d.labels ∷ (second ++ last))) (uses (Some false) e) (stmt_uses f a + (0 + (0 + (stmt_uses f b + 0)))) (more_lines d1 test (uses (Some false) e)) body in
+      given d1 d t5 (stmt_code f w l (if_stmt e a b) d.labels) 2 (uses (Some false) e + (stmt_uses f a + (0 + (0 + (stmt_uses f b + 0))))) (stmt_uses f (if_stmt e a b)) refl (omega arith) (omega arith) all
   stmt_gains f w l (while e a) d =
       let d1 = two_given d in
       let t0 = with_label d.labels d1 in
@@ -265,17 +274,50 @@ mutual
 pub statements_are_listed : StatementsAreListed
 statements_are_listed f w l s d = stmt_gains f w l s d
 
+-- ---- a statement that stands last in its function
+
+mutual
+  last_gains : (f : Framed) (w : Ways) (l : ℕ) (s : Stmt) (d : Drafted) → Gains d (with_last f w l s d) (last_code f w l s d.labels) (stmt_uses f s)
+  last_gains f w l (block os ss) d = lasts_gain f w l ss d
+  last_gains f w l (return e) d = maybe f e d
+  last_gains f w l empty d = stmt_gains f w l empty d
+  last_gains f w l (eval e) d = stmt_gains f w l (eval e) d
+  last_gains f w l (set_part i o e) d = stmt_gains f w l (set_part i o e) d
+  last_gains f w l (clear i) d = stmt_gains f w l (clear i) d
+  last_gains f w l (if_stmt e a b) d = stmt_gains f w l (if_stmt e a b) d
+  last_gains f w l (while e a) d = stmt_gains f w l (while e a) d
+  last_gains f w l (do_while a e) d = stmt_gains f w l (do_while a e) d
+  last_gains f w l (for_loop i c n a) d = stmt_gains f w l (for_loop i c n a) d
+  last_gains f w l (switch e a) d = stmt_gains f w l (switch e a) d
+  last_gains f w l (case z a) d = stmt_gains f w l (case z a) d
+  last_gains f w l (default a) d = stmt_gains f w l (default a) d
+  last_gains f w l (label n a) d = stmt_gains f w l (label n a) d
+  last_gains f w l (goto n) d = stmt_gains f w l (goto n) d
+  last_gains f w l break d = stmt_gains f w l break d
+  last_gains f w l continue d = stmt_gains f w l continue d
+
+  lasts_gain : (f : Framed) (w : Ways) (l : ℕ) (ss : Stmts) (d : Drafted) → Gains d (with_lasts f w l ss d) (lasts_code f w l ss d.labels) (stmts_uses f ss)
+  lasts_gain f w l no_stmts d = nothing d
+  lasts_gain f w l (and_stmts a no_stmts) d = counted d (with_last f w l a d) (last_code f w l a d.labels) (stmt_uses f a) (stmts_uses f (and_stmts a no_stmts)) (last_gains f w l a d) (omega arith)
+  lasts_gain f w l (and_stmts a (and_stmts b ss)) d =
+      let t = with_stmt f w l a d in
+      let more = and_stmts b ss in
+      let one = stmt_gains f w l a d in
+      let rest : Gains t (with_lasts f w (case_behind l a) more t) (lasts_code f w (case_behind l a) more (d.labels + stmt_uses f a)) (stmts_uses f more) = subst (λ y. Gains t (with_lasts f w (case_behind l a) more t) (lasts_code f w (case_behind l a) more y) (stmts_uses f more)) one.labels_are (lasts_gain f w (case_behind l a) (and_stmts b ss) t) in
+      behind_it d t (with_lasts f w (case_behind l a) more t) (stmt_code f w l a d.labels) (lasts_code f w (case_behind l a) more (d.labels + stmt_uses f a)) (stmt_uses f a) (stmts_uses f more) one rest
+
 pub functions_are_listed : FunctionsAreListed
 functions_are_listed f is_main body out =
     let d = no_lines out in
     let t0 = with_labels (body_room (Some body)) (with_labels 1 d) in
     let t1 = with_lines t0 (entry_code f) in
-    let t2 = with_stmt f (ways 0 0 0) 0 body t1 in
-    let t3 = with_lines t2 (main_code is_main) in
+    let t2 = with_last f (ways 0 0 0) 0 body t1 in
+    let main_end = main_code (is_main && not (returns_last body)) in
+    let t3 = with_lines t2 main_end in
     let t4 = with_label 0 t3 in
     let t5 = with_lines t4 (end_code f) in
-    let code = stmt_code f (ways 0 0 0) 0 body t1.labels in
+    let code = last_code f (ways 0 0 0) 0 body t1.labels in
     let last = behind_it t3 t4 t5 (Label 0 ∷ []) (end_code f) 0 0 (plain t3 (Label 0 ∷ [])) (plain t4 (end_code f)) in
-    let main = behind_it t2 t3 t5 (main_code is_main) (Label 0 ∷ end_code f) 0 (0 + 0) (plain t2 (main_code is_main)) last in
-    let all = behind_it t1 t2 t5 code (main_code is_main ++ Label 0 ∷ end_code f) (stmt_uses f body) (0 + (0 + 0)) (stmt_gains f (ways 0 0 0) 0 body t1) main in
-    (behind_it t0 t1 t5 (entry_code f) (code ++ (main_code is_main ++ Label 0 ∷ end_code f)) 0 (stmt_uses f body + (0 + (0 + 0))) (plain t0 (entry_code f)) all).lines_are
+    let main = behind_it t2 t3 t5 main_end (Label 0 ∷ end_code f) 0 (0 + 0) (plain t2 main_end) last in
+    let all = behind_it t1 t2 t5 code (main_end ++ Label 0 ∷ end_code f) (stmt_uses f body) (0 + (0 + 0)) (last_gains f (ways 0 0 0) 0 body t1) main in
+    (behind_it t0 t1 t5 (entry_code f) (code ++ (main_end ++ Label 0 ∷ end_code f)) 0 (stmt_uses f body + (0 + (0 + 0))) (plain t0 (entry_code f)) all).lines_are

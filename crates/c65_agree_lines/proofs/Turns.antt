@@ -14,11 +14,11 @@ use Rattle.c65_genexpr.specs.Uses.{uses}
 use Rattle.c65_genentry.specs.Words.{jump}
 use Rattle.c65_genstmt.specs.declared.jumps.Ways.{Ways}
 use Rattle.c65_genstmt.specs.Jumps.{following}
-use Rattle.c65_genstmt.specs.Stmts.{case_behind, ways}
+use Rattle.c65_genstmt.specs.Stmts.{is_empty, case_behind, ways}
 use Rattle.c65_agree_state.specs.World.{HasAt}
-use Rattle.c65_agree_lines.specs.Lists.{effects_code, effects_uses, guard_code, guard_uses, head_code, head_uses, stmt_code, stmt_uses, stmts_code}
+use Rattle.c65_agree_lines.specs.Lists.{effects_code, effects_uses, guard_code, guard_uses, head_code, head_uses, way_code, stmt_code, stmt_uses, stmts_code, last_code, lasts_code}
 use Rattle.c65_agree_lines.specs.Turns.{Turn, LoopAt, GotoAt, IsTurn, turns_of, all_turns_of, stmt_calls, stmts_calls}
-use Rattle.c65_agree_lines.specs.Laws.{TurnsStand, TurnsAreCounted}
+use Rattle.c65_agree_lines.specs.Laws.{TurnsStand, LastTurnsStand, TurnsAreCounted}
 use Rattle.c65_agree_lines.proofs.Stand.{parts_stand}
 
 all_both : (P : Turn → Type 0) (xs ys : List Turn) → All P xs → All P ys → All P (xs ++ ys)
@@ -38,11 +38,13 @@ module _ (code : List Line) where
         let test = expr_code f 0 (fresh + 1 + 1) (Test fresh false) e in
         let one = stmt_code f w l a first in
         let two = stmt_code f w (case_behind l a) b (first + stmt_uses f a) in
-        let tested = parts_stand code test (one ++ jump Jmp (fresh + 1) ∷ Label fresh ∷ (two ++ Label (fresh + 1) ∷ [])) p h in
+        let over = way_code (is_empty b) (fresh + 1) in
+        let tested = parts_stand code test (one ++ (over ++ Label fresh ∷ (two ++ Label (fresh + 1) ∷ []))) p h in
         let q = p + length test in
-        let body = parts_stand code one (jump Jmp (fresh + 1) ∷ Label fresh ∷ (two ++ Label (fresh + 1) ∷ [])) q tested.1 in
-        let last = suc (suc (q + length one)) in
-        let other = parts_stand code two (Label (fresh + 1) ∷ []) last body.1.1.1 in
+        let body = parts_stand code one (over ++ Label fresh ∷ (two ++ Label (fresh + 1) ∷ [])) q tested.1 in
+        let passed = parts_stand code over (Label fresh ∷ (two ++ Label (fresh + 1) ∷ [])) (q + length one) body.1 in
+        let last = suc (q + length one + length over) in
+        let other = parts_stand code two (Label (fresh + 1) ∷ []) last passed.1.1 in
         all_both (IsTurn code) (turns_of f w l a first q) (turns_of f w (case_behind l a) b (first + stmt_uses f a) last) (stand f w l a first q body.0) (stand f w (case_behind l a) b (first + stmt_uses f a) last other.0)
     stand f w l (while e a) fresh p h =
         let test = expr_code f 0 (fresh + 1 + 1) (Test (fresh + 1) false) e in
@@ -99,8 +101,40 @@ module _ (code : List Line) where
         let parts = parts_stand code one (stmts_code f w (case_behind l a) ss (fresh + stmt_uses f a)) p h in
         all_both (IsTurn code) (turns_of f w l a fresh p) (all_turns_of f w (case_behind l a) ss (fresh + stmt_uses f a) (p + length one)) (stand f w l a fresh p parts.0) (all_stand f w (case_behind l a) ss (fresh + stmt_uses f a) (p + length one) parts.1)
 
+  mutual
+    last_stand : (f : Framed) (w : Ways) (l : ℕ) (s : Stmt) (fresh p : ℕ) → HasAt code p (last_code f w l s fresh) → All (IsTurn code) (turns_of f w l s fresh p)
+    last_stand f w l (block os ss) fresh p h = lasts_stand f w l ss fresh p h
+    last_stand f w l (return e) fresh p h = All-nil (IsTurn code)
+    last_stand f w l empty fresh p h = All-nil (IsTurn code)
+    last_stand f w l (eval e) fresh p h = All-nil (IsTurn code)
+    last_stand f w l (set_part i o e) fresh p h = All-nil (IsTurn code)
+    last_stand f w l (clear i) fresh p h = All-nil (IsTurn code)
+    last_stand f w l (if_stmt e a b) fresh p h = stand f w l (if_stmt e a b) fresh p h
+    last_stand f w l (while e a) fresh p h = stand f w l (while e a) fresh p h
+    last_stand f w l (do_while a e) fresh p h = stand f w l (do_while a e) fresh p h
+    last_stand f w l (for_loop i c n a) fresh p h = stand f w l (for_loop i c n a) fresh p h
+    last_stand f w l (switch e a) fresh p h = stand f w l (switch e a) fresh p h
+    last_stand f w l (case z a) fresh p h = stand f w l (case z a) fresh p h
+    last_stand f w l (default a) fresh p h = stand f w l (default a) fresh p h
+    last_stand f w l (label n a) fresh p h = stand f w l (label n a) fresh p h
+    last_stand f w l (goto n) fresh p h = stand f w l (goto n) fresh p h
+    last_stand f w l break fresh p h = All-nil (IsTurn code)
+    last_stand f w l continue fresh p h = All-nil (IsTurn code)
+
+    lasts_stand : (f : Framed) (w : Ways) (l : ℕ) (ss : Stmts) (fresh p : ℕ) → HasAt code p (lasts_code f w l ss fresh) → All (IsTurn code) (all_turns_of f w l ss fresh p)
+    lasts_stand f w l no_stmts fresh p h = All-nil (IsTurn code)
+    lasts_stand f w l (and_stmts a no_stmts) fresh p h = all_both (IsTurn code) (turns_of f w l a fresh p) [] (last_stand f w l a fresh p h) (All-nil (IsTurn code))
+    lasts_stand f w l (and_stmts a (and_stmts b ss)) fresh p h =
+        let one = stmt_code f w l a fresh in
+        let more = and_stmts b ss in
+        let parts = parts_stand code one (lasts_code f w (case_behind l a) more (fresh + stmt_uses f a)) p h in
+        all_both (IsTurn code) (turns_of f w l a fresh p) (all_turns_of f w (case_behind l a) more (fresh + stmt_uses f a) (p + length one)) (stand f w l a fresh p parts.0) (lasts_stand f w (case_behind l a) (and_stmts b ss) (fresh + stmt_uses f a) (p + length one) parts.1)
+
 pub turns_stand : TurnsStand
 turns_stand f w l s fresh p code h = stand code f w l s fresh p h
+
+pub last_turns_stand : LastTurnsStand
+last_turns_stand f w l s fresh p code h = last_stand code f w l s fresh p h
 
 -- ---- how many there are
 
@@ -110,7 +144,7 @@ mutual
   count f w l (if_stmt e a b) fresh p =
       let first = fresh + 1 + 1 + uses (Some false) e in
       let q = p + length (expr_code f 0 (fresh + 1 + 1) (Test fresh false) e) in
-      let last = suc (suc (q + length (stmt_code f w l a first))) in
+      let last = suc (q + length (stmt_code f w l a first) + length (way_code (is_empty b) (fresh + 1))) in
       let both = length_both (turns_of f w l a first q) (turns_of f w (case_behind l a) b (first + stmt_uses f a) last) in
       let one = count f w l a first q in
       let two = count f w (case_behind l a) b (first + stmt_uses f a) last in

@@ -26,7 +26,7 @@ use Rattle.c65_genstmt.specs.declared.objects.Spot.{Spot}
 use Rattle.c65_genstmt.specs.declared.objects.Spot.TheVariants.{Bank, Soft, Data}
 use Rattle.c65_genstmt.specs.Jumps.{following}
 use Rattle.c65_genstmt.specs.Objects.{spot_of, object_bytes, point_code, stored_code}
-use Rattle.c65_genstmt.specs.Stmts.{case_behind, ways, default_way}
+use Rattle.c65_genstmt.specs.Stmts.{is_empty, case_behind, ways, default_way}
 
 -- ---- initial values
 
@@ -85,6 +85,11 @@ head_uses e a = 2 + (length (cases_of a) + (uses None e + choice_labels (width_o
 
 -- ---- statements
 
+-- the jump over what stands between, if anything does
+abbrev pub way_code : Bool → ℕ → List Line
+way_code true l = []
+way_code false l = jump Jmp l ∷ []
+
 abbrev mutual
   -- how many labels a statement gives
   pub stmt_uses : Framed → Stmt → ℕ
@@ -118,7 +123,7 @@ abbrev mutual
   stmt_code f w l (block os ss) fresh = stmts_code f w l ss fresh
   stmt_code f w l (if_stmt e a b) fresh =
       let first = fresh + 1 + 1 + uses (Some false) e in
-      expr_code f 0 (fresh + 1 + 1) (Test fresh false) e ++ (stmt_code f w l a first ++ jump Jmp (fresh + 1) ∷ Label fresh ∷ (stmt_code f w (case_behind l a) b (first + stmt_uses f a) ++ Label (fresh + 1) ∷ []))
+      expr_code f 0 (fresh + 1 + 1) (Test fresh false) e ++ (stmt_code f w l a first ++ (way_code (is_empty b) (fresh + 1) ++ Label fresh ∷ (stmt_code f w (case_behind l a) b (first + stmt_uses f a) ++ Label (fresh + 1) ∷ [])))
   stmt_code f w l (while e a) fresh =
       Label fresh ∷ (expr_code f 0 (fresh + 1 + 1) (Test (fresh + 1) false) e ++ (stmt_code f (ways (fresh + 1) fresh w.other) l a (fresh + 1 + 1 + uses (Some false) e) ++ jump Jmp fresh ∷ Label (fresh + 1) ∷ []))
   stmt_code f w l (do_while a e) fresh =
@@ -140,3 +145,16 @@ abbrev mutual
   pub stmts_code : Framed → Ways → ℕ → Stmts → ℕ → List Line
   stmts_code f w l no_stmts fresh = []
   stmts_code f w l (and_stmts a ss) fresh = stmt_code f w l a fresh ++ stmts_code f w (case_behind l a) ss (fresh + stmt_uses f a)
+
+-- ---- a statement that stands last in its function
+
+abbrev mutual
+  pub last_code : Framed → Ways → ℕ → Stmt → ℕ → List Line
+  last_code f w l (block os ss) fresh = lasts_code f w l ss fresh
+  last_code f w l (return e) fresh = maybe_code f e fresh
+  last_code f w l a fresh = stmt_code f w l a fresh
+
+  pub lasts_code : Framed → Ways → ℕ → Stmts → ℕ → List Line
+  lasts_code f w l no_stmts fresh = []
+  lasts_code f w l (and_stmts a no_stmts) fresh = last_code f w l a fresh
+  lasts_code f w l (and_stmts a (and_stmts b ss)) fresh = stmt_code f w l a fresh ++ lasts_code f w (case_behind l a) (and_stmts b ss) (fresh + stmt_uses f a)

@@ -12,8 +12,8 @@ use Rattle.c65_genexpr.specs.Uses.{uses}
 use Rattle.c65_genentry.specs.Words.{jump}
 use Rattle.c65_genstmt.specs.declared.jumps.Ways.{Ways}
 use Rattle.c65_genstmt.specs.Jumps.{following}
-use Rattle.c65_genstmt.specs.Stmts.{case_behind, ways}
-use Rattle.c65_agree_lines.specs.Lists.{effects_code, effects_uses, guard_code, guard_uses, head_code, head_uses, stmt_code, stmt_uses}
+use Rattle.c65_genstmt.specs.Stmts.{is_empty, case_behind, ways}
+use Rattle.c65_agree_lines.specs.Lists.{effects_code, effects_uses, guard_code, guard_uses, head_code, head_uses, way_code, stmt_code, stmt_uses}
 
 pub data Turn : Type 0 where
   LoopAt : (q : ℕ) → Turn
@@ -31,7 +31,7 @@ abbrev mutual
   turns_of f w l (if_stmt e a b) fresh p =
       let first = fresh + 1 + 1 + uses (Some false) e in
       let q = p + length (expr_code f 0 (fresh + 1 + 1) (Test fresh false) e) in
-      turns_of f w l a first q ++ turns_of f w (case_behind l a) b (first + stmt_uses f a) (suc (suc (q + length (stmt_code f w l a first))))
+      turns_of f w l a first q ++ turns_of f w (case_behind l a) b (first + stmt_uses f a) (suc (q + length (stmt_code f w l a first) + length (way_code (is_empty b) (fresh + 1))))
   turns_of f w l (while e a) fresh p =
       LoopAt p ∷ turns_of f (ways (fresh + 1) fresh w.other) l a (fresh + 1 + 1 + uses (Some false) e) (suc p + length (expr_code f 0 (fresh + 1 + 1) (Test (fresh + 1) false) e))
   turns_of f w l (do_while a e) fresh p = LoopAt p ∷ turns_of f (ways (fresh + 1 + 1) (fresh + 1) w.other) l a (fresh + 1 + 1 + 1) (suc p)

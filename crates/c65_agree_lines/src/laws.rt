@@ -1,5 +1,5 @@
 // Laws of lists of lines, each the contract of a function that does nothing.
-ghost use Rattle.c65_agree_lines.specs.Laws.{AllStand, FunctionsAreListed, PartsStand, SegmentsArePlaced, StatementsAreListed, TurnsAreCounted, TurnsStand};
+ghost use Rattle.c65_agree_lines.specs.Laws.{AllStand, FunctionsAreListed, LastTurnsStand, PartsStand, SegmentsArePlaced, StatementsAreListed, TurnsAreCounted, TurnsStand};
 
 /// A draft gains the lines of a statement.
 pub fn statements_are_listed()
@@ -29,6 +29,11 @@ pub fn segments_are_placed()
 /// The loops and gotos of a statement have their lines.
 pub fn turns_stand()
     ensures { TurnsStand }
+{}
+
+/// So have those of a statement that stands last in its function.
+pub fn last_turns_stand()
+    ensures { LastTurnsStand }
 {}
 
 /// With its calls they are as many as the meaning counts.

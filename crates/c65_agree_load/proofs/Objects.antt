@@ -20,17 +20,22 @@ use Rattle.c65_meaning.specs.Step.{go_on}
 use Rattle.c65_code.specs.LineState.{State}
 use Rattle.c65_genframe.specs.declared.home.Home.{Home}
 use Rattle.c65_genframe.specs.declared.home.Home.TheVariants as homes
-use Rattle.c65_genframe.specs.Frames.{home_of, is_raised}
+use Rattle.c65_genframe.specs.Frames.{Framed, home_of, is_raised}
 use Rattle.c65_genframe.specs.Symbols.{numbers_of, object_symbol}
 use Rattle.c65_genload.specs.declared.places.Access.TheVariants as access
 use Rattle.c65_genload.specs.declared.places.Place.{Place}
 use Rattle.c65_genload.specs.declared.places.Place.TheVariants.{Near, Data, Far}
+use Rattle.c65_genload.specs.declared.places.Extent.{Extent}
+use Rattle.c65_genload.specs.declared.places.Extent.TheVariants.{One, Two, Three, Four}
 use Rattle.c65_genload.specs.Places.{extent_of}
 use Rattle.c65_genload.specs.Loads.{load_code}
 use Rattle.c65_genexpr.specs.declared.destination.Destination.{Destination}
 use Rattle.c65_genexpr.specs.declared.destination.Destination.TheVariants as destinations
 use Rattle.c65_genexpr.specs.Destination.{arrived, destination_by, fetch_by, fetch_code}
 use Rattle.c65_genexpr.specs.Types.{kind_of}
+use Rattle.c65_genexpr.specs.Elements.{typed_by, element_or, loaded_element}
+use Rattle.c65_genexpr.specs.Code.{expr_code}
+use Rattle.c65_genexpr.specs.declared.wanted.Wanted.TheVariants as wanted
 use Rattle.c65_genexpr.specs.Places.{more, near, soft_place, place_at, object_place, target_code, object_code}
 use Rattle.c65_agree_store.specs.Stands.{Spot, At, Banked, Placing, Banks, IsAt, beyond}
 use Rattle.c65_agree_state.specs.World.{World, unit_in, Active, place_in}
@@ -132,6 +137,19 @@ loaded_there g pushed i None kind destinations.Pointer = refl
 loaded_there g pushed i (Some (homes.Bank b)) kind destinations.Pointer = refl
 loaded_there g pushed i (Some (homes.Soft d)) kind destinations.Pointer = refl
 
+-- a whole object is no element of an array
+none_typed : (kind : IntType) (e : Extent) → typed_by kind e None ≡ None
+none_typed kind One = refl
+none_typed kind Two = refl
+none_typed kind Three = refl
+none_typed kind Four = refl
+
+-- so its lines are those of its place
+lines_of_load : (f : Framed) (pushed fresh i : ℕ) (t q : QTy) (kind : IntType) → kind ≡ kind_of (type_in q)
+    → expr_code f pushed fresh wanted.Value (load_of t q i) ≡ target_code (object_place f pushed i) (object_code f pushed i ++ arrived (destination_by (extent_of kind))) ++ fetch_code (object_place f pushed i) (access.Whole kind)
+lines_of_load f pushed fresh i t q kind is =
+    rw is (ap (λ o. element_or o (λ x. loaded_element wanted.Value x []) (target_code (object_place f pushed i) (object_code f pushed i ++ arrived (destination_by (extent_of (kind_of (type_in q))))) ++ fetch_code (object_place f pushed i) (access.Whole (kind_of (type_in q))))) (none_typed (kind_of (type_in q)) (extent_of (kind_of (type_in q)))))
+
 pub objects_are_loaded : ObjectsAreLoaded
 objects_are_loaded g a pushed fresh i t q placed scalar same homed fits kept_there =
     let shape : Shape = shape_of (unit_in g).types (type_in q) in
@@ -139,8 +157,9 @@ objects_are_loaded g a pushed fresh i t q placed scalar same homed fits kept_the
     let kind : IntType = kind_of (type_in q) in
     let base : List _ = object_code a.frame pushed i ++ arrived (destination_by (extent_of kind)) in
     let where_told = told g a pushed i (home_of a.frame i) homed.low fits in
-    let lines : target_code (object_place a.frame pushed i) base ++ fetch_code (object_place a.frame pushed i) (access.Whole kind) ≡ load_code place (access.Whole (kind_in shape)) =
-    ap (λ l. target_code l base ++ fetch_code l (access.Whole kind)) where_told.0
+    let lines : expr_code a.frame pushed fresh wanted.Value (load_of t q i) ≡ load_code place (access.Whole (kind_in shape)) =
+    lines_of_load a.frame pushed fresh i t q kind refl
+    ∙ ap (λ l. target_code l base ++ fetch_code l (access.Whole kind)) where_told.0
     ∙ ap (λ ls. ls ++ fetch_code place (access.Whole kind)) (no_base g pushed i (home_of a.frame i) base)
     ∙ loaded_there g pushed i (home_of a.frame i) kind (destination_by (extent_of kind))
     ∙ ap (λ kind. load_code place (access.Whole kind)) (kind_is (unit_in g).types (type_in q) scalar) in

@@ -104,11 +104,14 @@ module _ (g : World) (a : Active) (op : BinaryOp) (t r : IntType) (label pushed 
 
 -- ---- over both operands
 
-over_pushed : (g : World) (a : Active) (pushed needs : ℕ) (c c2 : Scene) (w w2 : Placing) (k k2 : Banks) (width : Width) (n : ℕ) (t u x y : State)
-    → IsPushed g a pushed needs c w k width t u → Kept g a c w k u c2 w2 k2 x → IsTaken g a pushed needs c2 w2 k2 width n x y → Kept g a c w k t c2 w2 k2 y
-over_pushed g a pushed needs c c2 w w2 k k2 width n t u x y push h taken = record {
-  joins = taken.ready.joins;
-  sp = omega (arith, taken.sp, h.sp, push.sp);
+-- all is kept over what waits, where a call behind it takes that off
+pub over_pushed : (g : World) (a : Active) (pushed needs : ℕ) (c c2 : Scene) (w w2 : Placing) (k k2 : Banks) (width : Width) (t u x y : State)
+    → IsPushed g a pushed needs c w k width t u → Kept g a c w k u c2 w2 k2 x
+    → Ready g a pushed needs c2 w2 k2 y → sp_of y ≡ sp_of x + size_of width → ((m : ℕ) → sp_of x + size_of width ≤ m → IsFree c2.store w2 (At m) → y.mem m ≡ x.mem m)
+    → Kept g a c w k t c2 w2 k2 y
+over_pushed g a pushed needs c c2 w w2 k k2 width t u x y push h ready off mem = record {
+  joins = ready.joins;
+  sp = omega (arith, off, h.sp, push.sp);
   frames = h.frames;
   next = h.next;
   bounds = h.bounds;
@@ -116,16 +119,16 @@ over_pushed g a pushed needs c c2 w w2 k k2 width n t u x y push h taken = recor
   kept = λ m le f. bytes m le f;
   banks = h.banks;
   own_bank = h.own_bank;
-  none_pushed = taken.ready.none_pushed;
+  none_pushed = ready.none_pushed;
 }
   where
     bytes : (m : ℕ) → sp_of t ≤ m → IsFree c.store w (At m) → (y.mem m ≡ t.mem m) × IsFree c2.store w2 (At m)
     bytes m le f =
         let one = h.kept m (omega (arith, le, push.sp)) f in
-        (taken.mem m (omega (arith, le, h.sp, push.sp)) one.1 ∙ one.0 ∙ push.mem m le, one.1)
+        (mem m (omega (arith, le, h.sp, push.sp)) one.1 ∙ one.0 ∙ push.mem m le, one.1)
 
 -- the bytes of a value that waits
-waiting_is : (width : Width) → waiting width ≡ size_of width
+pub waiting_is : (width : Width) → waiting width ≡ size_of width
 waiting_is Ax = refl
 waiting_is Eax = refl
 
@@ -159,7 +162,7 @@ module _ (g : World) (a : Active) (m : Manner) (op : BinaryOp) (t r : IntType) (
     waited = number_waits g a pushed more_needs c1 c3 w1 w3 b1 b3 s2 s3 (width_of t) push2.ready done3.kept ∙ push2.word
 
     kept_to : (z : ℤ) (y : State) → IsTaken g a pushed more_needs c3 w3 b3 (width_of t) (word_of t z) s3 y → Kept g a c w b s c3 w3 b3 y
-    kept_to z y h = kept_goes_on g a c c1 c3 w w1 w3 b b1 b3 s s1 y done1.kept (over_pushed g a pushed more_needs c1 c3 w1 w3 b1 b3 (width_of t) (word_of t z) s1 s2 s3 y push2 done3.kept h)
+    kept_to z y h = kept_goes_on g a c c1 c3 w w1 w3 b b1 b3 s s1 y done1.kept (over_pushed g a pushed more_needs c1 c3 w1 w3 b1 b3 (width_of t) s1 s2 s3 y push2 done3.kept h.ready h.sp h.mem)
 
     left_to : (y : State) → IsLeft m c s c3 y
     left_to y = left_then m c c1 c3 s s1 y left1 (left_then m c1 c3 c3 s1 s3 y (left_heavy m c1 c3 s2 s3 s1 s3 heavy left3) (left_scene m c3 s3 y heavy))

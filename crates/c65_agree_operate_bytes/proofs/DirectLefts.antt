@@ -84,7 +84,7 @@ trees_are_read_behind g a pushed e d placed frame typed is needs n weight k vs c
 -- ---- the operator
 
 -- what holds of a manner holds of one that asks for less
-less_left : (m : Manner) (pure : Bool) (c c2 : Scene) (t u : State) → (m.pure ≡ true → pure ≡ true) → IsLeft (record m { pure = pure }) c t c2 u → IsLeft m c t c2 u
+pub less_left : (m : Manner) (pure : Bool) (c c2 : Scene) (t u : State) → (m.pure ≡ true → pure ≡ true) → IsLeft (record m { pure = pure }) c t c2 u → IsLeft m c t c2 u
 less_left m pure c c2 t u asked left = record { scene = go m.pure refl pure refl left.scene; held = left.held }
   where
     go : (x : Bool) → m.pure ≡ x → (y : Bool) → pure ≡ y → Where y (c2 ≡ c) → Where x (c2 ≡ c)

@@ -1,5 +1,5 @@
 -- What lies ahead of a statement: where jumps out of it lead, and what follows behind its lines.
-use Rattle.std.proofs.Common.{◌≡◌, ℕ, suc, ◌+◌, ◌<◌, ◌≤◌, List, ◌∷◌, ◌++◌, Option, Some, None, sym, ap, ◌∙◌, subst, arith}
+use Rattle.std.proofs.Common.{◌≡◌, ℕ, suc, ◌+◌, ◌<◌, ◌≤◌, Bool, true, false, List, ◌∷◌, ◌++◌, Option, Some, None, sym, ap, ◌∙◌, subst, arith}
 use Rattle.std.specs.Prelude.{length, slice_get}
 use Rattle.c65_csem.specs.Trees.{Stmts}
 use Rattle.c65_meaning.specs.Items.{Item, Leave, plan_stmts}
@@ -19,7 +19,7 @@ use Rattle.c65_agree_state.specs.World.{World, unit_in, setting_in, Active, line
 use Rattle.c65_agree_state.specs.Follows.{Follows}
 use Rattle.c65_agree_state.specs.Stmts.{Covers, GoesOn, ComesOn, LeadsTo, LabelLeads, ReturnLeads, arms_weight}
 use Rattle.c65_agree_state.proofs.Followed.{follows_weaken}
-use Rattle.c65_agree_stmts.specs.Calling.{Calling, WorkDoes, AllDo}
+use Rattle.c65_agree_stmts.specs.Calling.{Calling, WorkDoes, AllDo, EndsIn, WorkEnds}
 use Rattle.c65_agree_lines.specs.Lists.{stmts_code}
 use Rattle.c65_agree_stmts.proofs.Inside.{LeadAlike}
 use Rattle.c65_agree_stmts.proofs.Standing.{Stands}
@@ -50,6 +50,13 @@ module _ (x : Calling) where
 
   abbrev pub Going : ℕ → ℕ → List ℕ → List Item → ℕ → Type 0
   Going = GoesOn x.world x.active x.needs x.first x.placing x.banks x.state x.params x.result x.below x.values
+
+  -- the same, where what stands between statements is taken apart
+  pub goes_of : (n w : ℕ) (scope : List ℕ) (k : List Item) (p : ℕ) → Going n w scope k p → Goes n w scope k p
+  goes_of n w scope k p h j c q b t seen lt stands turns = h j c q b t seen lt stands.between stands.keeping turns
+
+  pub going_of : (n w : ℕ) (scope : List ℕ) (k : List Item) (p : ℕ) → Goes n w scope k p → Going n w scope k p
+  going_of n w scope k p h j c q b t seen lt between keeping turns = h j c q b t seen lt (record { between = between; keeping = keeping }) turns
 
   abbrev pub Coming : ℕ → ℕ → List ℕ → List Item → ℕ → Type 0
   Coming = ComesOn x.world x.active x.needs x.first x.placing x.banks x.state x.params x.result x.below x.values
@@ -114,43 +121,68 @@ module _ (x : Calling) where
     returns = h.returns;
   }
 
+  -- ---- behind lines: the end of the function, where they return at theirs, and else what follows
+
+  abbrev pub Ends : Bool → ℕ → ℕ → List ℕ → List Item → ℕ → Type 0
+  Ends true n w scope k p = place_in x.world x.active p ≡ place_in x.world x.active (labelled (lines_of x.world x.active) 0)
+  Ends false n w scope k p = Goes n w scope k p
+
+  pub ends_of : (ends : Bool) (n w : ℕ) (scope : List ℕ) (k : List Item) (p : ℕ) → EndsIn x ends n w scope k p → Ends ends n w scope k p
+  ends_of true n w scope k p h = h
+  ends_of false n w scope k p h = goes_of n w scope k p h
+
+  pub ending_of : (ends : Bool) (n w : ℕ) (scope : List ℕ) (k : List Item) (p : ℕ) → Ends ends n w scope k p → EndsIn x ends n w scope k p
+  ending_of true n w scope k p h = h
+  ending_of false n w scope k p h = going_of n w scope k p h
+
+  pub ends_less : (ends : Bool) (n m w v : ℕ) (scope : List ℕ) (k : List Item) (p : ℕ) → m ≤ n → w ≤ v → Ends ends n w scope k p → Ends ends m v scope k p
+  ends_less true n m w v scope k p le more h = h
+  ends_less false n m w v scope k p le more h = λ j c q b t seen lt stands turns. follows_weaken x.world j w v _ _ t seen more (h j c q b t seen (omega (arith, lt, le)) stands turns)
+
+  -- at another name of the place
+  pub ends_at : (ends : Bool) (n w : ℕ) (scope : List ℕ) (k : List Item) (p q : ℕ) → p ≡ q → Ends ends n w scope k p → Ends ends n w scope k q
+  ends_at ends n w scope k p q e h = subst (λ m. Ends ends n w scope k m) e h
+
   -- ---- the work of statements
 
-  pub does_with : (scope : List ℕ) (work : List Item → List Item) (ways : Ways) (lines : List Line) → WorkDoes x scope work ways lines
-      → (n w p : ℕ) (k : List Item) (c : Scene) (q : Placing) (b : Banks) (t : State) (seen : Seen) → n ≤ x.most → x.reserve ≤ w → HasAt (lines_of x.world x.active) p lines
-      → Stands x scope c q b t → HasTurns x.world c.turns (place_in x.world x.active p) seen → Ahead n w scope k ways → Goes n w scope k (p + length lines)
+  -- what is to be shown of the lines, where such an end is behind them
+  abbrev pub IsEnding : List ℕ → (List Item → List Item) → Ways → Bool → List Line → Type 0
+  IsEnding scope work ways ends lines = (n w p : ℕ) (k : List Item) (c : Scene) (q : Placing) (b : Banks) (t : State) (seen : Seen) → n ≤ x.most → x.reserve ≤ w → HasAt (lines_of x.world x.active) p lines
+      → Stands x scope c q b t → HasTurns x.world c.turns (place_in x.world x.active p) seen → Ahead n w scope k ways → Ends ends n w scope k (p + length lines)
       → Follows x.world n w (Running (work k) x.values c) (place_in x.world x.active p) t seen
-  does_with scope work ways lines does n w p k c q b t seen le more has stands turns ahead goes =
-      does n w p k c q b t seen le more has stands.between stands.keeping turns ahead.call ahead.behind ahead.onward ahead.labels ahead.returns (λ j c2 q2 b2 u later lt between keeping turns2.
-      goes j c2 q2 b2 u later lt (record { between = between; keeping = keeping }) turns2)
 
-  -- what is to be shown of the lines
+  pub ends_with : (scope : List ℕ) (work : List Item → List Item) (ways : Ways) (ends : Bool) (lines : List Line) → WorkEnds x scope work ways ends lines → IsEnding scope work ways ends lines
+  ends_with scope work ways ends lines does n w p k c q b t seen le more has stands turns ahead goes =
+      does n w p k c q b t seen le more has stands.between stands.keeping turns ahead.call ahead.behind ahead.onward ahead.labels ahead.returns (ending_of ends n w scope k (p + length lines) goes)
+
+  pub work_ends : (scope : List ℕ) (work : List Item → List Item) (ways : Ways) (ends : Bool) (lines : List Line) → IsEnding scope work ways ends lines → WorkEnds x scope work ways ends lines
+  work_ends scope work ways ends lines done n w p k c q b t seen le more has between keeping turns call behind onward labels returns goes =
+      done n w p k c q b t seen le more has (record { between = between; keeping = keeping }) turns (record { call = call; behind = behind; onward = onward; labels = labels; returns = returns }) (ends_of ends n w scope k (p + length lines) goes)
+
+  -- and where what follows is followed
   abbrev pub IsDone : List ℕ → (List Item → List Item) → Ways → List Line → Type 0
-  IsDone scope work ways lines = (n w p : ℕ) (k : List Item) (c : Scene) (q : Placing) (b : Banks) (t : State) (seen : Seen) → n ≤ x.most → x.reserve ≤ w → HasAt (lines_of x.world x.active) p lines
-      → Stands x scope c q b t → HasTurns x.world c.turns (place_in x.world x.active p) seen → Ahead n w scope k ways → Goes n w scope k (p + length lines)
-      → Follows x.world n w (Running (work k) x.values c) (place_in x.world x.active p) t seen
+  IsDone scope work ways lines = IsEnding scope work ways false lines
+
+  pub does_with : (scope : List ℕ) (work : List Item → List Item) (ways : Ways) (lines : List Line) → WorkDoes x scope work ways lines → IsDone scope work ways lines
+  does_with scope work ways lines does = ends_with scope work ways false lines does
 
   pub work_does : (scope : List ℕ) (work : List Item → List Item) (ways : Ways) (lines : List Line) → IsDone scope work ways lines → WorkDoes x scope work ways lines
-  work_does scope work ways lines done n w p k c q b t seen le more has between keeping turns call behind onward labels returns goes =
-      done n w p k c q b t seen le more has (record { between = between; keeping = keeping }) turns (record { call = call; behind = behind; onward = onward; labels = labels; returns = returns }) (λ j c2 q2 b2 u later lt stands turns2.
-      goes j c2 q2 b2 u later lt stands.between stands.keeping turns2)
+  work_does scope work ways lines done = work_ends scope work ways false lines done
 
-  -- ---- and of lists of them
+  -- ---- and of lists of them, which may take no step
 
-  pub do_with : (scope : List ℕ) (at : ℕ) (ss : Stmts) (ways : Ways) (next fresh : ℕ) → AllDo x scope at ss ways next fresh
-      → (n w p : ℕ) (k : List Item) (c : Scene) (q : Placing) (b : Banks) (t : State) (seen : Seen) → n ≤ x.most → x.reserve ≤ w → HasAt (lines_of x.world x.active) p (stmts_code x.active.frame ways next ss fresh)
-      → Stands x scope c q b t → HasTurns x.world c.turns (place_in x.world x.active p) seen → Ahead n w scope k ways → Goes (suc n) w scope k (p + length (stmts_code x.active.frame ways next ss fresh))
-      → Follows x.world n w (Running (plan_stmts (unit_in x.world) at ss k) x.values c) (place_in x.world x.active p) t seen
-  do_with scope at ss ways next fresh does n w p k c q b t seen le more has stands turns ahead goes =
-      does n w p k c q b t seen le more has stands.between stands.keeping turns ahead.call ahead.behind ahead.onward ahead.labels ahead.returns (λ j c2 q2 b2 u later lt between keeping turns2.
-      goes j c2 q2 b2 u later lt (record { between = between; keeping = keeping }) turns2)
+  abbrev pub AreEnding : List ℕ → (List Item → List Item) → Ways → Bool → List Line → Type 0
+  AreEnding scope work ways ends lines = (n w p : ℕ) (k : List Item) (c : Scene) (q : Placing) (b : Banks) (t : State) (seen : Seen) → n ≤ x.most → x.reserve ≤ w → HasAt (lines_of x.world x.active) p lines
+      → Stands x scope c q b t → HasTurns x.world c.turns (place_in x.world x.active p) seen → Ahead n w scope k ways → Ends ends (suc n) w scope k (p + length lines)
+      → Follows x.world n w (Running (work k) x.values c) (place_in x.world x.active p) t seen
 
   abbrev pub AreDone : List ℕ → ℕ → Stmts → Ways → List Line → Type 0
-  AreDone scope at ss ways lines = (n w p : ℕ) (k : List Item) (c : Scene) (q : Placing) (b : Banks) (t : State) (seen : Seen) → n ≤ x.most → x.reserve ≤ w → HasAt (lines_of x.world x.active) p lines
-      → Stands x scope c q b t → HasTurns x.world c.turns (place_in x.world x.active p) seen → Ahead n w scope k ways → Goes (suc n) w scope k (p + length lines)
-      → Follows x.world n w (Running (plan_stmts (unit_in x.world) at ss k) x.values c) (place_in x.world x.active p) t seen
+  AreDone scope at ss ways lines = AreEnding scope (plan_stmts (unit_in x.world) at ss) ways false lines
+
+  pub do_with : (scope : List ℕ) (at : ℕ) (ss : Stmts) (ways : Ways) (next fresh : ℕ) → AllDo x scope at ss ways next fresh → AreDone scope at ss ways (stmts_code x.active.frame ways next ss fresh)
+  do_with scope at ss ways next fresh does n w p k c q b t seen le more has stands turns ahead goes =
+      does n w p k c q b t seen le more has stands.between stands.keeping turns ahead.call ahead.behind ahead.onward ahead.labels ahead.returns (going_of (suc n) w scope k (p + length (stmts_code x.active.frame ways next ss fresh)) goes)
 
   pub all_do : (scope : List ℕ) (at : ℕ) (ss : Stmts) (ways : Ways) (next fresh : ℕ) → AreDone scope at ss ways (stmts_code x.active.frame ways next ss fresh) → AllDo x scope at ss ways next fresh
   all_do scope at ss ways next fresh done n w p k c q b t seen le more has between keeping turns call behind onward labels returns goes =
-      done n w p k c q b t seen le more has (record { between = between; keeping = keeping }) turns (record { call = call; behind = behind; onward = onward; labels = labels; returns = returns }) (λ j c2 q2 b2 u later lt stands turns2.
-      goes j c2 q2 b2 u later lt stands.between stands.keeping turns2)
+      done n w p k c q b t seen le more has (record { between = between; keeping = keeping }) turns (record { call = call; behind = behind; onward = onward; labels = labels; returns = returns }) (goes_of (suc n) w scope k (p + length (stmts_code x.active.frame ways next ss fresh)) goes)

@@ -2,7 +2,7 @@
 use Rattle.std.proofs.Common.{◌≡◌, ℕ, suc, ◌+◌, max, List, [], ◌∷◌, ◌++◌, Some, ap, ◌∙◌, arith, length-append}
 use Rattle.std.specs.Prelude.{length, false}
 use Rattle.c65_csem.specs.Trees.{present, absent, UnitTy}
-use Rattle.c65_mach.specs.declared.rows.Op.TheVariants.{Jmp}
+use Rattle.c65_csem_plain.specs.Arms.{arms}
 use Rattle.c65_meaning.specs.Items.{Next, Check, test_first, test_last}
 use Rattle.c65_meaning.specs.After.{after}
 use Rattle.c65_meaning.specs.Sites.{count}
@@ -12,16 +12,15 @@ use Rattle.c65_code.specs.declared.line.Line.TheVariants.{Label}
 use Rattle.c65_genexpr.specs.declared.wanted.Wanted.TheVariants.{Test}
 use Rattle.c65_genexpr.specs.Code.{expr_code}
 use Rattle.c65_genexpr.specs.Uses.{uses}
-use Rattle.c65_genentry.specs.Words.{jump}
-use Rattle.c65_genstmt.specs.Stmts.{case_behind}
+use Rattle.c65_genstmt.specs.Stmts.{is_empty, case_behind}
 use Rattle.c65_agree_state.specs.World.{unit_in, lines_of, place_in, HasAt}
 use Rattle.c65_agree_state.proofs.Nodes.{has_front, has_back}
-use Rattle.c65_agree_lines.specs.Lists.{stmt_code, stmt_uses}
-use Rattle.c65_agree_stmts.specs.Landings.{label_of, arms}
+use Rattle.c65_agree_lines.specs.Lists.{way_code, stmt_code, stmt_uses}
+use Rattle.c65_agree_stmts.specs.Landings.{label_of}
 use Rattle.c65_agree_stmts.specs.Laws.{IfLands, WhileLands, DoLands, ForLands}
-use Rattle.c65_agree_stmts.proofs.Standing.{jumps, come_turns}
-use Rattle.c65_agree_stmts.proofs.Ahead.{onward, passed, behind_label, Goes, less}
-use Rattle.c65_agree_stmts.proofs.Landings.{goes_of, going_of, ahead_of, is_ahead, lands_more, lands_first}
+use Rattle.c65_agree_stmts.proofs.Ahead.{onward, passed, Goes, goes_of, going_of, less}
+use Rattle.c65_agree_stmts.proofs.Over.{no_lines_of, goes_over}
+use Rattle.c65_agree_stmts.proofs.Landings.{ahead_of, is_ahead, lands_more, lands_first}
 use Rattle.c65_agree_stmts.proofs.While as whiles
 use Rattle.c65_agree_stmts.proofs.Do as dos
 use Rattle.c65_agree_stmts.proofs.For as fors
@@ -31,11 +30,11 @@ if_lands x what scope at next fresh w e s r placed ls lr n v p k le more has ahe
     lands_first x n (v + max (1 + arms s) (arms r)) scope (after u what (suc at) s k) (after u what (suc at + count s) r k) (label_of what w.other next s) (label_of what w.other (case_behind next s) r)
     (lands_more x n (1 + v + arms s) (v + max (1 + arms s) (arms r)) scope _ _ (omega arith)
     (ls n (1 + v) p1 k le (omega (arith, more)) (has_front code p1 A _ h1) (is_ahead x n (1 + v) scope k w (less x n n v (1 + v) scope k w (omega arith) (omega arith) (ahead_of x n v scope k w ahead)))
-    (going_of x n (1 + v) scope k p2 (λ j c q b t seen lt stands turns.
-    jumps x scope c q b t stands j v c.turns p2 (fresh + 1) (Running k x.values c) seen h2.0 turns (λ come.
-    onward x.world x.active j v c.turns (Running k x.values c) _ _ t _ (behind_label x.world x.active placed p3 (fresh + 1) h3.0 ∙ end) (all j c q b t _ lt stands) (come_turns x.world c.turns _ _ come))))))
+    (going_of x n (1 + v) scope k p2
+    (goes_over x scope k (is_empty r) fresh (fresh + 1) B n v p2 placed (no_lines_of x.active.frame w (case_behind next s) r (f + stmt_uses x.active.frame s)) h2 (λ j c q b t seen lt stands turns.
+    onward x.world x.active j v c.turns (Running k x.values c) _ _ t seen end (all j c q b t seen lt stands) turns)))))
     (lands_more x n (v + arms r) (v + max (1 + arms s) (arms r)) scope _ _ (omega arith)
-    (lr n v (suc (suc p2)) k le more (has_front code (suc (suc p2)) B _ h2.1.1) ahead
+    (lr n v (suc (p2 + length W)) k le more (has_front code (suc (p2 + length W)) B _ h2b.1) ahead
     (going_of x n v scope k p3 (λ j c q b t seen lt stands turns.
     onward x.world x.active j v c.turns (Running k x.values c) _ _ t seen (passed x.world x.active p3 (fresh + 1) h3.0 ∙ end) (all j c q b t seen lt stands) turns))))
   where
@@ -60,6 +59,9 @@ if_lands x what scope at next fresh w e s r placed ls lr n v p k le more has ahe
     last : List Line
     last = Label (fresh + 1) ∷ []
 
+    W : List Line
+    W = way_code (is_empty r) (fresh + 1)
+
     p1 : ℕ
     p1 = p + length T
 
@@ -67,22 +69,25 @@ if_lands x what scope at next fresh w e s r placed ls lr n v p k le more has ahe
     p2 = p1 + length A
 
     p3 : ℕ
-    p3 = suc (suc p2) + length B
+    p3 = suc (p2 + length W) + length B
 
-    h1 : HasAt code p1 (A ++ jump Jmp (fresh + 1) ∷ Label fresh ∷ (B ++ last))
+    h1 : HasAt code p1 (A ++ (W ++ Label fresh ∷ (B ++ last)))
     h1 = has_back code p T _ has
 
-    h2 : HasAt code p2 (jump Jmp (fresh + 1) ∷ Label fresh ∷ (B ++ last))
+    h2 : HasAt code p2 (W ++ Label fresh ∷ (B ++ last))
     h2 = has_back code p1 A _ h1
 
+    h2b : HasAt code (p2 + length W) (Label fresh ∷ (B ++ last))
+    h2b = has_back code p2 W _ h2
+
     h3 : HasAt code p3 last
-    h3 = has_back code (suc (suc p2)) B last h2.1.1
+    h3 = has_back code (suc (p2 + length W)) B last h2b.1
 
-    end : place_in x.world x.active (suc p3) ≡ place_in x.world x.active (p + length (T ++ (A ++ jump Jmp (fresh + 1) ∷ Label fresh ∷ (B ++ last))))
-    end = ap (place_in x.world x.active) (omega (arith, length-append T (A ++ jump Jmp (fresh + 1) ∷ Label fresh ∷ (B ++ last)), length-append A (jump Jmp (fresh + 1) ∷ Label fresh ∷ (B ++ last)), length-append B last))
+    end : place_in x.world x.active (suc p3) ≡ place_in x.world x.active (p + length (T ++ (A ++ (W ++ Label fresh ∷ (B ++ last)))))
+    end = ap (place_in x.world x.active) (omega (arith, length-append T (A ++ (W ++ Label fresh ∷ (B ++ last))), length-append A (W ++ Label fresh ∷ (B ++ last)), length-append W (Label fresh ∷ (B ++ last)), length-append B last))
 
-    all : Goes x n v scope k (p + length (T ++ (A ++ jump Jmp (fresh + 1) ∷ Label fresh ∷ (B ++ last))))
-    all = goes_of x n v scope k (p + length (T ++ (A ++ jump Jmp (fresh + 1) ∷ Label fresh ∷ (B ++ last)))) goes
+    all : Goes x n v scope k (p + length (T ++ (A ++ (W ++ Label fresh ∷ (B ++ last)))))
+    all = goes_of x n v scope k (p + length (T ++ (A ++ (W ++ Label fresh ∷ (B ++ last))))) goes
 
 pub while_lands : WhileLands
 while_lands x what scope at next fresh w e s placed counted test ds ls n v p k le more has ahead goes =

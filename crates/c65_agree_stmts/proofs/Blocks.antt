@@ -1,11 +1,12 @@
 -- Blocks whose objects begin and end (C90 6.6.2).
 use Rattle.std.proofs.Common.{◌≡◌, ℕ, suc, ◌+◌, ◌⊎◌, inl, inr, List, [], ◌∷◌, ◌++◌, Option, Some, None, Bool, true, false, refl, sym, ap, subst, arith}
 use Rattle.std.specs.Prelude.{◌==◌, if◌then◌else◌, length}
-use Rattle.c65_csem.specs.Trees.{block, UnitTy}
-use Rattle.c65_meaning.specs.Items.{Item, Begin, End, plan_stmt}
+use Rattle.c65_csem.specs.Trees.{block, Stmts, UnitTy}
+use Rattle.c65_meaning.specs.Items.{Item, Begin, End, plan_stmt, plan_stmts}
 use Rattle.c65_meaning.specs.After.{Left, ending, is_among, up_to_break, up_to_continue}
 use Rattle.c65_meaning.specs.State.{Scene}
 use Rattle.c65_meaning.specs.Step.{begin_object, begin_objects, end_objects}
+use Rattle.c65_code.specs.declared.line.Line.{Line}
 use Rattle.c65_code.specs.LineState.{State}
 use Rattle.c65_genstmt.specs.declared.jumps.Ways.{Ways}
 use Rattle.c65_agree_store.specs.Stands.{Placing, Banks}
@@ -17,7 +18,7 @@ use Rattle.c65_agree_stmts.specs.Calling.{Calling}
 use Rattle.c65_agree_stmts.specs.Objects.{MayAllBegin, HasGround}
 use Rattle.c65_agree_stmts.specs.Laws.{OpenBlockDoes}
 use Rattle.c65_agree_stmts.proofs.Standing.{Stands, earns}
-use Rattle.c65_agree_stmts.proofs.Ahead.{Goes, Leads, Ahead, less, do_with, work_does}
+use Rattle.c65_agree_stmts.proofs.Ahead.{Goes, Leads, Ahead, less, Ends, ends_less, IsEnding, work_does, AreEnding, do_with}
 use Rattle.c65_agree_stmts.proofs.Endings.{stands_ended, ended_turns}
 use Rattle.c65_agree_stmts.proofs.Beginnings.{stands_begun, q2}
 
@@ -132,12 +133,23 @@ block_goes x n w scope os k p goes j c q b t seen lt stands turns =
     follows_weaken x.world i w (w + 4000) _ _ t seen (omega arith)
     (goes i (end_objects os c) q b t seen (omega (arith, lt, lt2)) (stands_ended x (os ++ scope) scope os c q b t stands (among_both os scope)) (subst (λ m. HasTurns x.world m (place_in x.world x.active p) seen) (sym (ended_turns os c)) turns)))
 
-pub open_block_does : OpenBlockDoes
-open_block_does x scope at next fresh w os ss ground may dss = work_does x scope (plan_stmt (unit_in x.world) at (block os ss)) w (stmts_code x.active.frame w next ss fresh) (λ n v p k c q b t seen le more has stands turns ahead goes.
+pub block_ends : (x : Calling) (ends : Bool) (n w : ℕ) (scope os : List ℕ) (k : List Item) (p : ℕ) → Ends x ends n w scope k p → Ends x ends (suc n) w (os ++ scope) (End os ∷ k) p
+block_ends x true n w scope os k p h = h
+block_ends x false n w scope os k p h = block_goes x n w scope os k p h
+
+-- the lines of its statements, which may stand last in the function
+pub open_block_ends : (x : Calling) (scope : List ℕ) (at : ℕ) (w : Ways) (os : List ℕ) (ss : Stmts) (ends : Bool) (lines : List Line) → HasGround x → MayAllBegin x scope os
+    → AreEnding x (os ++ scope) (plan_stmts (unit_in x.world) (suc at) ss) w ends lines → IsEnding x scope (plan_stmt (unit_in x.world) at (block os ss)) w ends lines
+open_block_ends x scope at w os ss ends lines ground may dss n v p k c q b t seen le more has stands turns ahead goes =
     earns x scope c q b t stands n v (Begin (suc at) os ss) k x.values _ seen turns (λ j lt.
     let begun = all_begin x ground os scope c q b t may stands in
     follows_weaken x.world j v (v + 4000) _ _ t seen (omega arith)
-    (do_with x (os ++ scope) (suc at) ss w next fresh dss j v p (End os ∷ k) (begin_objects (unit_in x.world) os c) begun.placing b t seen (omega (arith, lt, le)) more has begun.stands
+    (dss j v p (End os ∷ k) (begin_objects (unit_in x.world) os c) begun.placing b t seen (omega (arith, lt, le)) more has begun.stands
     (subst (λ m. HasTurns x.world m (place_in x.world x.active p) seen) (sym (begun_turns (unit_in x.world) os c)) turns)
     (block_ahead x j v scope os k w (less x n j v v scope k w (omega (arith, lt)) (omega arith) ahead))
-    (block_goes x j v scope os k (p + length (stmts_code x.active.frame w next ss fresh)) (λ i c2 q2 b2 y later lt2 stands2 turns2. goes i c2 q2 b2 y later (omega (arith, lt, lt2)) stands2 turns2)))))
+    (block_ends x ends j v scope os k (p + length lines) (ends_less x ends n j v v scope k (p + length lines) (omega (arith, lt)) (omega arith) goes))))
+
+pub open_block_does : OpenBlockDoes
+open_block_does x scope at next fresh w os ss ground may dss =
+    let lines = stmts_code x.active.frame w next ss fresh in
+    work_does x scope (plan_stmt (unit_in x.world) at (block os ss)) w lines (open_block_ends x scope at w os ss false lines ground may (do_with x (os ++ scope) (suc at) ss w next fresh dss))

@@ -1,23 +1,27 @@
 -- The body of a function: its labels lead wherever a `goto` comes from.
-use Rattle.std.proofs.Common.{◌≡◌, ℕ, suc, ◌+◌, ◌<◌, ◌≤◌, inr, [], ◌∷◌, ◌++◌, Option, Some, None, Bool, true, false, refl, sym, ap, subst, arith}
-use Rattle.std.specs.Prelude.{◌==◌, if◌then◌else◌, length}
+use Rattle.std.proofs.Common.{◌≡◌, ℕ, suc, ◌+◌, ◌<◌, ◌≤◌, inr, List, [], ◌∷◌, ◌++◌, Option, Some, None, Bool, true, false, refl, sym, ap, subst, arith}
+use Rattle.std.specs.Prelude.{◌==◌, ◌&&◌, not, if◌then◌else◌, length}
 use Rattle.std.proofs.lemmas.Bool.{eqb-true}
 use Rattle.c65_csem.specs.Trees.{Stmt, empty, eval, set_part, clear, block, if_stmt, while, do_while, for_loop, switch, case, default, label, goto, break, continue, return, Stmts, no_stmts, and_stmts}
-use Rattle.c65_meaning.specs.Items.{Leave, plan_stmt}
+use Rattle.c65_csem_plain.specs.Arms.{arms}
+use Rattle.c65_meaning.specs.Items.{Item, Leave, plan_stmt}
 use Rattle.c65_meaning.specs.After.{Landing, ToLabel, after}
+use Rattle.c65_code.specs.declared.line.Line.TheVariants.{Label}
 use Rattle.c65_code.specs.Moves.{labelled}
+use Rattle.c65_genentry.specs.Ends.{end_code}
 use Rattle.c65_genstmt.specs.declared.jumps.Ways.{Ways}
 use Rattle.c65_genstmt.specs.Jumps.{following}
-use Rattle.c65_genstmt.specs.Stmts.{case_behind}
-use Rattle.c65_agree_state.specs.World.{unit_in, lines_of, HasAt}
+use Rattle.c65_genstmt.specs.Stmts.{case_behind, returns_last}
+use Rattle.c65_genstmt.specs.Functions.{main_code}
+use Rattle.c65_agree_state.specs.World.{unit_in, lines_of, place_in, HasAt, IsPlaced}
 use Rattle.c65_agree_state.specs.Stmts.{arms_weight}
-use Rattle.c65_agree_lines.specs.Lists.{stmt_code}
-use Rattle.c65_agree_stmts.specs.Calling.{Calling}
-use Rattle.c65_agree_stmts.specs.Landings.{first_of, label_of, label_in, arms, Lands, LandsIn}
-use Rattle.c65_agree_stmts.specs.Laws.{LabelsLead, BodiesDo}
+use Rattle.c65_agree_lines.specs.Lists.{last_code}
+use Rattle.c65_agree_stmts.specs.Calling.{Calling, EndsIn}
+use Rattle.c65_agree_stmts.specs.Landings.{first_of, label_of, label_in, Lands, LandsLast}
+use Rattle.c65_agree_stmts.specs.Laws.{LabelsLead, BodiesDo, BodiesEnd}
 use Rattle.c65_agree_stmts.proofs.Bounds.{all_does}
-use Rattle.c65_agree_stmts.proofs.Ahead.{Going, Landed, Returning, going_less, returning_less, Ahead, does_with}
-use Rattle.c65_agree_stmts.proofs.Landings.{goes_of, is_ahead}
+use Rattle.c65_agree_stmts.proofs.Ahead.{Going, Landed, Returning, going_less, returning_less, Ahead, ends_of, ending_of, ends_less, ends_with}
+use Rattle.c65_agree_stmts.proofs.Landings.{is_ahead}
 
 -- ---- the label of a label
 
@@ -59,12 +63,12 @@ mutual
 
 -- ---- by induction on the steps that are looked at
 
-module _ (x : Calling) (w : Ways) (next fresh v p : ℕ) (lands : (l : ℕ) → LandsIn x (ToLabel l) x.params 0 x.body w next fresh) (few : arms x.body ≤ arms_weight) (more : x.reserve ≤ v) (has : HasAt (lines_of x.world x.active) p (stmt_code x.active.frame w next x.body fresh)) where
+module _ (x : Calling) (w : Ways) (next fresh v p : ℕ) (lands : (l : ℕ) → LandsLast x (ToLabel l) x.params 0 x.body w next fresh) (few : arms x.body ≤ arms_weight) (more : x.reserve ≤ v) (has : HasAt (lines_of x.world x.active) p (last_code x.active.frame w next x.body fresh)) where
   abbrev end : ℕ
-  end = p + length (stmt_code x.active.frame w next x.body fresh)
+  end = p + length (last_code x.active.frame w next x.body fresh)
 
   abbrev LabelsDo : ℕ → Type 0
-  LabelsDo n = n ≤ x.most → Returning x n v → Going x n v x.params (Leave ∷ x.below) end → (l : ℕ) → Landed x n (v + arms_weight) l (after (unit_in x.world) (ToLabel l) 0 x.body (Leave ∷ x.below))
+  LabelsDo n = n ≤ x.most → Returning x n v → EndsIn x (returns_last x.body) n v x.params (Leave ∷ x.below) end → (l : ℕ) → Landed x n (v + arms_weight) l (after (unit_in x.world) (ToLabel l) 0 x.body (Leave ∷ x.below))
 
   body_ahead : (n : ℕ) → Returning x n v → ((l : ℕ) → Landed x n (v + arms_weight) l (after (unit_in x.world) (ToLabel l) 0 x.body (Leave ∷ x.below))) → Ahead x n v x.params (Leave ∷ x.below) w
   body_ahead n returns labels = record { call = ([], refl, λ m e. inr e); behind = tt; onward = tt; labels = labels; returns = returns }
@@ -85,7 +89,8 @@ module _ (x : Calling) (w : Ways) (next fresh v p : ℕ) (lands : (l : ℕ) → 
       lands_at : (j : ℕ) → j < n → Lands x j (v + arms x.body) x.params (after (unit_in x.world) (ToLabel l) 0 x.body (Leave ∷ x.below)) (label_of (ToLabel l) w.other next x.body)
       lands_at j lt =
           let back = returning_less x n j v v (omega (arith, lt)) (omega arith) returns in
-          let on = going_less x n j v v x.params (Leave ∷ x.below) end (omega (arith, lt)) (omega arith) goes in
+          let r = returns_last x.body in
+          let on = ending_of x r j v x.params (Leave ∷ x.below) end (ends_less x r n j v v x.params (Leave ∷ x.below) end (omega (arith, lt)) (omega arith) (ends_of x r n v x.params (Leave ∷ x.below) end goes)) in
           lands l j v p (Leave ∷ x.below) (omega (arith, lt, le)) more has (is_ahead x j v x.params (Leave ∷ x.below) w (body_ahead j back (before j lt (omega (arith, lt, le)) back on))) on
 
       go : (o : Option Landing) → after (unit_in x.world) (ToLabel l) 0 x.body (Leave ∷ x.below) ≡ o → Landed x n (v + arms_weight) l o
@@ -101,5 +106,18 @@ labels_lead x w next fresh n v p lands few le more has returns goes l = labels_d
 
 pub bodies_do : BodiesDo
 bodies_do x w next fresh n v p c q b t seen does lands few le more has between keeping turns returns goes =
-    does_with x x.params (plan_stmt (unit_in x.world) 0 x.body) w (stmt_code x.active.frame w next x.body fresh) does n v p (Leave ∷ x.below) c q b t seen le more has (record { between = between; keeping = keeping }) turns
-    (body_ahead x w next fresh v p lands few more has n returns (labels_lead x w next fresh n v p lands few le more has returns goes)) (goes_of x n v x.params (Leave ∷ x.below) _ goes)
+    let r = returns_last x.body in
+    let lines = last_code x.active.frame w next x.body fresh in
+    ends_with x x.params (plan_stmt (unit_in x.world) 0 x.body) w r lines does n v p (Leave ∷ x.below) c q b t seen le more has (record { between = between; keeping = keeping }) turns
+    (body_ahead x w next fresh v p lands few more has n returns (labels_lead x w next fresh n v p lands few le more has returns goes)) (ends_of x r n v x.params (Leave ∷ x.below) (p + length lines) goes)
+
+-- ---- behind its lines
+
+ends_by : (x : Calling) (is_main returns : Bool) (n v p : ℕ) (scope : List ℕ) (k : List Item) → IsPlaced (lines_of x.world x.active) → HasAt (lines_of x.world x.active) p (main_code (is_main && not returns) ++ Label 0 ∷ end_code x.active.frame)
+    → (returns ≡ false → Going x n v scope k p) → EndsIn x returns n v scope k p
+ends_by x true true n v p scope k placed has goes = ap (place_in x.world x.active) (sym (placed p 0 has.0))
+ends_by x false true n v p scope k placed has goes = ap (place_in x.world x.active) (sym (placed p 0 has.0))
+ends_by x is_main false n v p scope k placed has goes = goes refl
+
+pub bodies_end : BodiesEnd
+bodies_end x is_main n v p scope k placed has goes = ends_by x is_main (returns_last x.body) n v p scope k placed has goes

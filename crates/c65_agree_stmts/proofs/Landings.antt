@@ -1,7 +1,8 @@
 -- Where the labels in a statement lead.
 use Rattle.std.proofs.Common.{◌≡◌, ℕ, suc, ◌+◌, ◌≤◌, ◌⊎◌, inl, inr, max, List, ◌∷◌, ◌++◌, Option, Some, None, Bool, true, false, subst, arith, length-append}
 use Rattle.std.specs.Prelude.{length, if◌then◌else◌}
-use Rattle.c65_csem.specs.Trees.{Stmt, UnitTy}
+use Rattle.c65_csem.specs.Trees.{Stmt, Stmts, and_stmts, UnitTy}
+use Rattle.c65_csem_plain.specs.Arms.{arms, arms_in}
 use Rattle.c65_meaning.specs.Items.{Item, End, plan_stmt, plan_stmts}
 use Rattle.c65_meaning.specs.After.{Sought, Landing, is_among, is_label, is_case, is_default, or_else, within, found, after, after_all}
 use Rattle.c65_meaning.specs.Sites.{count}
@@ -15,20 +16,14 @@ use Rattle.c65_genstmt.specs.Stmts.{case_behind, ways}
 use Rattle.c65_agree_state.specs.World.{unit_in, lines_of, HasAt, IsPlaced}
 use Rattle.c65_agree_state.proofs.Nodes.{has_front, has_back}
 use Rattle.c65_agree_lines.specs.Lists.{stmt_code, stmts_code, stmt_uses}
-use Rattle.c65_agree_stmts.specs.Calling.{Calling, Does}
-use Rattle.c65_agree_stmts.specs.Landings.{first_of, label_of, label_in, arms, arms_in, Lands, IsAhead, LandsIn}
+use Rattle.c65_agree_stmts.specs.Calling.{Calling, Does, EndsIn}
+use Rattle.c65_agree_stmts.specs.Landings.{first_of, label_of, label_in, Lands, IsAhead, LandsIn}
 use Rattle.c65_agree_stmts.specs.Laws.{LabelLands, CaseLands, DefaultLands, BothLand, BlockLands}
 use Rattle.c65_agree_stmts.proofs.Inside.{stmts_alike}
-use Rattle.c65_agree_stmts.proofs.Ahead.{onward, behind_label, Goes, Going, going_less, Ahead, less, ahead_before, does_with, do_with}
-use Rattle.c65_agree_stmts.proofs.Blocks.{stands_wider, among_left, among_right, among_both, block_ahead, block_goes}
+use Rattle.c65_agree_stmts.proofs.Ahead.{onward, behind_label, Going, goes_of, going_of, going_less, Ahead, less, ahead_before, Ends, ends_of, ending_of, ends_less, ends_at, does_with, AreEnding, do_with}
+use Rattle.c65_agree_stmts.proofs.Blocks.{stands_wider, among_left, among_right, among_both, block_ahead, block_ends}
 
 module _ (x : Calling) where
-  pub goes_of : (n w : ℕ) (scope : List ℕ) (k : List Item) (p : ℕ) → Going x n w scope k p → Goes x n w scope k p
-  goes_of n w scope k p h j c q b t seen lt stands turns = h j c q b t seen lt stands.between stands.keeping turns
-
-  pub going_of : (n w : ℕ) (scope : List ℕ) (k : List Item) (p : ℕ) → Goes x n w scope k p → Going x n w scope k p
-  going_of n w scope k p h j c q b t seen lt between keeping turns = h j c q b t seen lt (record { between = between; keeping = keeping }) turns
-
   pub ahead_of : (n w : ℕ) (scope : List ℕ) (k : List Item) (ways : Ways) → IsAhead x n w scope k ways → Ahead x n w scope k ways
   ahead_of n w scope k ways h = record { call = h.call; behind = h.behind; onward = h.onward; labels = h.labels; returns = h.returns }
 
@@ -104,7 +99,7 @@ module _ (x : Calling) where
             onward x.world x.active j v c.turns (Running (plan_stmt u (suc at) s k) x.values c) _ _ t seen (behind_label x.world x.active placed p label has.0) (λ turns1.
             does_with x scope (plan_stmt u (suc at) s) w S ds j v (suc p) k c q b t seen (omega (arith, lt, le)) more has.1 (record { between = between; keeping = keeping }) turns1
             (less x n j v v scope k w (omega (arith, lt)) (omega arith) (ahead_of n v scope k w ahead)) (λ i c2 q2 b2 y seen2 lt2 stands2 turns2.
-            goes_of n v scope k (suc p + length S) later i c2 q2 b2 y seen2 (omega (arith, lt, lt2)) stands2 turns2)) turns
+            goes_of x n v scope k (suc p + length S) later i c2 q2 b2 y seen2 (omega (arith, lt, lt2)) stands2 turns2)) turns
 
 pub label_lands : LabelLands
 label_lands x what scope at next fresh l w s placed ds ls n v p k le more has ahead goes = behind x what scope at next fresh (following l) w s placed ds ls (is_label what l) n v p k le more has ahead goes
@@ -117,16 +112,23 @@ default_lands x what scope at next fresh w s placed ds ls n v p k le more has ah
 
 -- ---- lists and blocks
 
-pub both_land : BothLand
-both_land x what scope at next fresh w s ss dss ls lss n v p k le more has ahead goes =
-    lands_first x n (v + max (arms s) (arms_in ss)) scope (after u what at s (plan_stmts u (at + count s) ss k)) (after_all u what (at + count s) ss k) (label_of what w.other next s) (label_in what w.other (case_behind next s) ss)
-    (lands_more x n (v + arms s) (v + max (arms s) (arms_in ss)) scope _ _ (omega arith)
+-- in a statement, or behind it in the lines of others, which may stand last in the function and have `label` for what is sought
+pub either_lands : (x : Calling) (what : Sought) (scope : List ℕ) (at next fresh m : ℕ) (w : Ways) (s : Stmt) (ss : Stmts) (ends : Bool) (R : List Line) (label : Option ℕ)
+    → AreEnding x scope (plan_stmts (unit_in x.world) (at + count s) ss) w ends R → LandsIn x what scope at s w next fresh
+    → (n v p : ℕ) (k : List Item) → n ≤ x.most → x.reserve ≤ v → HasAt (lines_of x.world x.active) p (stmt_code x.active.frame w next s fresh ++ R) → IsAhead x n v scope k w
+    → EndsIn x ends (suc n) v scope k (p + length (stmt_code x.active.frame w next s fresh ++ R))
+    → (HasAt (lines_of x.world x.active) (p + length (stmt_code x.active.frame w next s fresh)) R → EndsIn x ends (suc n) v scope k (p + length (stmt_code x.active.frame w next s fresh) + length R)
+    → Lands x n (v + m) scope (after_all (unit_in x.world) what (at + count s) ss k) label)
+    → Lands x n (v + max (arms s) m) scope (after_all (unit_in x.world) what at (and_stmts s ss) k) (first_of (label_of what w.other next s) label)
+either_lands x what scope at next fresh m w s ss ends R label dss ls n v p k le more has ahead goes lss =
+    lands_first x n (v + max (arms s) m) scope (after u what at s (plan_stmts u (at + count s) ss k)) (after_all u what (at + count s) ss k) (label_of what w.other next s) label
+    (lands_more x n (v + arms s) (v + max (arms s) m) scope _ _ (omega arith)
     (ls n v p (plan_stmts u (at + count s) ss k) le more (has_front _ p S R has) (is_ahead x n v scope (plan_stmts u (at + count s) ss k) w (ahead_before x n v scope (plan_stmts u (at + count s) ss k) k w (stmts_alike u (at + count s) ss k) all))
     (going_of x n v scope (plan_stmts u (at + count s) ss k) (p + length S) (λ j c q b t seen lt stands turns.
-    do_with x scope (at + count s) ss w (case_behind next s) (fresh + stmt_uses x.active.frame s) dss j v (p + length S) k c q b t seen (omega (arith, lt, le)) more (has_back _ p S R has) stands turns
-    (less x n j v v scope k w (omega (arith, lt)) (omega arith) all) (λ i c2 q2 b2 y seen2 lt2 stands2 turns2.
-    goes_of x (suc n) v scope k (p + length S + length R) later i c2 q2 b2 y seen2 (omega (arith, lt, lt2)) stands2 turns2)))))
-    (lands_more x n (v + arms_in ss) (v + max (arms s) (arms_in ss)) scope _ _ (omega arith) (lss n v (p + length S) k le more (has_back _ p S R has) ahead later))
+    dss j v (p + length S) k c q b t seen (omega (arith, lt, le)) more (has_back _ p S R has) stands turns
+    (less x n j v v scope k w (omega (arith, lt)) (omega arith) all)
+    (ends_less x ends (suc n) (suc j) v v scope k (p + length S + length R) (omega (arith, lt)) (omega arith) later)))))
+    (lands_more x n (v + m) (v + max (arms s) m) scope _ _ (omega arith) (lss (has_back _ p S R has) (ending_of x ends (suc n) v scope k (p + length S + length R) later)))
   where
     u : UnitTy
     u = unit_in x.world
@@ -134,17 +136,28 @@ both_land x what scope at next fresh w s ss dss ls lss n v p k le more has ahead
     S : List Line
     S = stmt_code x.active.frame w next s fresh
 
-    R : List Line
-    R = stmts_code x.active.frame w (case_behind next s) ss (fresh + stmt_uses x.active.frame s)
-
     all : Ahead x n v scope k w
     all = ahead_of x n v scope k w ahead
 
-    later : Going x (suc n) v scope k (p + length S + length R)
-    later = going_at x (suc n) v scope k (p + length (S ++ R)) (p + length S + length R) (omega (arith, length-append S R)) goes
+    later : Ends x ends (suc n) v scope k (p + length S + length R)
+    later = ends_at x ends (suc n) v scope k (p + length (S ++ R)) (p + length S + length R) (omega (arith, length-append S R)) (ends_of x ends (suc n) v scope k (p + length (S ++ R)) goes)
+
+pub both_land : BothLand
+both_land x what scope at next fresh w s ss dss ls lss n v p k le more has ahead goes =
+    let f = fresh + stmt_uses x.active.frame s in
+    let label = label_in what w.other (case_behind next s) ss in
+    either_lands x what scope at next fresh (arms_in ss) w s ss false (stmts_code x.active.frame w (case_behind next s) ss f) label (do_with x scope (at + count s) ss w (case_behind next s) f dss) ls n v p k le more has ahead goes
+    (λ there on. lss n v (p + length (stmt_code x.active.frame w next s fresh)) k le more there ahead on)
+
+-- in a block, whose lines may stand last in the function
+pub inside_lands : (x : Calling) (n v m : ℕ) (scope os : List ℕ) (k : List Item) (w : Ways) (ends : Bool) (p : ℕ) (o : Option Landing) (label : Option ℕ) → IsAhead x n v scope k w → EndsIn x ends n v scope k p
+    → (IsAhead x n v (os ++ scope) (End os ∷ k) w → EndsIn x ends (suc n) v (os ++ scope) (End os ∷ k) p → Lands x n (v + m) (os ++ scope) o label) → Lands x n (v + m) scope (within os o) label
+inside_lands x n v m scope os k w ends p o label ahead goes lss =
+    lands_within x n (v + m) scope os o label
+    (lss (is_ahead x n v (os ++ scope) (End os ∷ k) w (block_ahead x n v scope os k w (ahead_of x n v scope k w ahead)))
+    (ending_of x ends (suc n) v (os ++ scope) (End os ∷ k) p (block_ends x ends n v scope os k p (ends_of x ends n v scope k p goes))))
 
 pub block_lands : BlockLands
 block_lands x what scope at next fresh w os ss lss n v p k le more has ahead goes =
-    lands_within x n (v + arms_in ss) scope os (after_all (unit_in x.world) what (suc at) ss (End os ∷ k)) (label_in what w.other next ss)
-    (lss n v p (End os ∷ k) le more has (is_ahead x n v (os ++ scope) (End os ∷ k) w (block_ahead x n v scope os k w (ahead_of x n v scope k w ahead)))
-    (going_of x (suc n) v (os ++ scope) (End os ∷ k) _ (block_goes x n v scope os k _ (goes_of x n v scope k _ goes))))
+    inside_lands x n v (arms_in ss) scope os k w false (p + length (stmts_code x.active.frame w next ss fresh)) (after_all (unit_in x.world) what (suc at) ss (End os ∷ k)) (label_in what w.other next ss) ahead goes
+    (λ within_block on. lss n v p (End os ∷ k) le more has within_block on)

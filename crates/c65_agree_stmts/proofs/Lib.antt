@@ -2,6 +2,7 @@ pub mod Bounds
 pub mod Inside
 pub mod Standing
 pub mod Ahead
+pub mod Over
 pub mod Effects
 pub mod Plain
 pub mod While
@@ -18,3 +19,4 @@ pub mod Bodies
 pub mod Cases
 pub mod Switch
 pub mod Trees
+pub mod Lasts

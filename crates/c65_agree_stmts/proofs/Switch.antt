@@ -6,6 +6,7 @@ use Rattle.c65_csem.specs.Trees.{Typed, Stmt, switch, UnitTy}
 use Rattle.c65_csem.specs.Places.{is_place, is_registered}
 use Rattle.c65_csem.specs.Statements.{cases_of}
 use Rattle.c65_csem_need.specs.Needs.{need}
+use Rattle.c65_csem_plain.specs.Arms.{arms}
 use Rattle.c65_mach.specs.declared.rows.Op.TheVariants.{Jmp}
 use Rattle.c65_meaning.specs.Store.{Value, Whole, Null, Place, Opaque, Cells, NoValue, Number}
 use Rattle.c65_meaning.specs.Operators.{unusable}
@@ -39,13 +40,13 @@ use Rattle.c65_agree_state.proofs.Nodes.{has_front, has_back}
 use Rattle.c65_agree_lines.specs.Lists.{stmt_code, head_code, head_uses}
 use Rattle.c65_agree_stmts.specs.Calling.{Calling, HasValue}
 use Rattle.c65_agree_stmts.specs.Objects.{MayAllBegin, HasGround}
-use Rattle.c65_agree_stmts.specs.Landings.{label_of, arms, Lands, LandsIn}
+use Rattle.c65_agree_stmts.specs.Landings.{label_of, Lands, LandsIn}
 use Rattle.c65_agree_stmts.specs.Choices.{case_of, label_or, ChoiceLeads}
 use Rattle.c65_agree_stmts.specs.Laws.{SwitchDoes, SwitchLands}
 use Rattle.c65_agree_stmts.proofs.Standing.{Stands, stands_behind, ready, earns, come_turns, undefined_follows}
-use Rattle.c65_agree_stmts.proofs.Ahead.{onward, passed, behind_label, Goes, Ahead, less, work_does}
+use Rattle.c65_agree_stmts.proofs.Ahead.{onward, passed, behind_label, Goes, goes_of, going_of, Ahead, less, work_does}
 use Rattle.c65_agree_stmts.proofs.Blocks.{all_begin, begun_turns}
-use Rattle.c65_agree_stmts.proofs.Landings.{goes_of, going_of, ahead_of, is_ahead}
+use Rattle.c65_agree_stmts.proofs.Landings.{ahead_of, is_ahead}
 use Rattle.c65_agree_stmts.proofs.Cases.{case_is, other_if, default_is, label_same, cases_counted}
 
 module _ (x : Calling) (scope : List ℕ) (at fresh : ℕ) (w : Ways) (e : Typed) (s : Stmt) (placed : IsPlaced (lines_of x.world x.active)) where

@@ -1,5 +1,5 @@
 -- The statements of one call of a function.
-use Rattle.std.specs.Prelude.{◌≡◌, ℕ, suc, ◌+◌, ◌≤◌, List, ◌∷◌, Some, length, slice_get}
+use Rattle.std.specs.Prelude.{◌≡◌, ℕ, suc, ◌+◌, ◌≤◌, Bool, true, false, List, ◌∷◌, Some, length, slice_get}
 use Rattle.c65_csem.specs.Trees.{Typed, MaybeTyped, absent, present, Stmt, Stmts}
 use Rattle.c65_csem_need.specs.Needs.{need}
 use Rattle.c65_mach.specs.declared.rows.Op.TheVariants.{Jmp}
@@ -10,15 +10,17 @@ use Rattle.c65_meaning.specs.State.{Scene, Running}
 use Rattle.c65_code.specs.declared.line.Line.{Line}
 use Rattle.c65_code.specs.declared.line.Line.TheVariants.{Label}
 use Rattle.c65_code.specs.LineState.{State}
+use Rattle.c65_code.specs.Moves.{labelled}
 use Rattle.c65_code.specs.Comes.{Seen}
 use Rattle.c65_genentry.specs.Words.{jump}
 use Rattle.c65_genstmt.specs.declared.jumps.Ways.{Ways}
+use Rattle.c65_genstmt.specs.Stmts.{returns_last}
 use Rattle.c65_agree_store.specs.Stands.{Placing, Banks}
 use Rattle.c65_agree_state.specs.World.{World, unit_in, Active, lines_of, place_in, owned_at, HasAt, HasTurns}
 use Rattle.c65_agree_state.specs.Follows.{Follows}
 use Rattle.c65_agree_state.specs.Exprs.{ExpressionDoes, TestDoes}
 use Rattle.c65_agree_state.specs.Stmts.{Between, Keeping, Covers, GoesOn, LeadsTo, LabelLeads, ReturnLeads, arms_weight, StatementDoes}
-use Rattle.c65_agree_lines.specs.Lists.{stmt_code, stmts_code}
+use Rattle.c65_agree_lines.specs.Lists.{stmt_code, stmts_code, last_code}
 use Rattle.c65_agree_stmts.specs.Effects.{EffectDoes}
 
 -- One call from its first statement on: the scene, places and state there, the parameters of the function and what it gives, the work and
@@ -60,6 +62,30 @@ AllDo x scope at ss ways next fresh =
     → ReturnLeads x.world x.active x.needs x.first x.placing x.banks x.state x.params x.result x.below x.values n w
     → GoesOn x.world x.active x.needs x.first x.placing x.banks x.state x.params x.result x.below x.values (suc n) w scope k (p + length lines)
     → Follows x.world n w (Running (plan_stmts (unit_in x.world) at ss k) x.values c) (place_in x.world x.active p) t seen
+
+-- ---- lines that stand last in the function
+
+-- Behind lines at whose end a return stands the function's end does, at label 0, and behind others what follows them is followed.
+abbrev pub EndsIn : Calling → Bool → ℕ → ℕ → List ℕ → List Item → ℕ → Type 0
+EndsIn x true n w scope k p = place_in x.world x.active p ≡ place_in x.world x.active (labelled (lines_of x.world x.active) 0)
+EndsIn x false n w scope k p = GoesOn x.world x.active x.needs x.first x.placing x.banks x.state x.params x.result x.below x.values n w scope k p
+
+-- the lines do this work, where such an end is behind them
+abbrev pub WorkEnds : Calling → List ℕ → (List Item → List Item) → Ways → Bool → List Line → Type 0
+WorkEnds x scope work ways ends lines =
+    (n w p : ℕ) (k : List Item) (c : Scene) (q : Placing) (b : Banks) (t : State) (seen : Seen)
+    → n ≤ x.most → x.reserve ≤ w → HasAt (lines_of x.world x.active) p lines
+    → Between x.world x.active x.needs scope c q b t → Keeping x.active x.first x.placing x.banks x.state c q b t → HasTurns x.world c.turns (place_in x.world x.active p) seen
+    → ((left : List ℕ) × (up_to_call k ≡ Some (record { objects = left; work = Leave ∷ x.below })) × Covers scope left x.params)
+    → LeadsTo x.world x.active x.needs x.first x.placing x.banks x.state x.params x.result x.below x.values n w scope (up_to_break k) ways.behind → LeadsTo x.world x.active x.needs x.first x.placing x.banks x.state x.params x.result x.below x.values n w scope (up_to_continue k) ways.onward
+    → ((l : ℕ) → LabelLeads x.world x.active x.needs x.first x.placing x.banks x.state x.params x.result x.below x.values n (w + arms_weight) l (after (unit_in x.world) (ToLabel l) 0 x.body (Leave ∷ x.below)))
+    → ReturnLeads x.world x.active x.needs x.first x.placing x.banks x.state x.params x.result x.below x.values n w
+    → EndsIn x ends n w scope k (p + length lines)
+    → Follows x.world n w (Running (work k) x.values c) (place_in x.world x.active p) t seen
+
+-- the lines of a statement that stands last in its function do its work
+abbrev pub LastDoes : Calling → List ℕ → ℕ → Stmt → Ways → ℕ → ℕ → Type 0
+LastDoes x scope at s ways next fresh = WorkEnds x scope (plan_stmt (unit_in x.world) at s) ways (returns_last s) (last_code x.active.frame ways next s fresh)
 
 -- ---- its expressions
 

@@ -1,16 +1,17 @@
 -- Where the labels in a statement lead (C90 6.1.2.3, 6.6.1, 6.6.4.2).
-use Rattle.std.specs.Prelude.{◌≡◌, ℕ, suc, ◌+◌, ◌≤◌, max, if◌then◌else◌, List, ◌∷◌, ◌++◌, Option, Some, None, length}
+use Rattle.std.specs.Prelude.{◌≡◌, ℕ, suc, ◌+◌, ◌≤◌, if◌then◌else◌, List, ◌∷◌, ◌++◌, Option, Some, None, length}
 use Rattle.c65_csem.specs.Trees.{Stmt, block, if_stmt, while, do_while, for_loop, switch, case, default, label, Stmts, no_stmts, and_stmts}
+use Rattle.c65_csem_plain.specs.Arms.{arms, arms_in}
 use Rattle.c65_meaning.specs.Items.{Item, Leave}
 use Rattle.c65_meaning.specs.After.{Sought, ToLabel, Landing, is_label, is_case, is_default, after, after_all, up_to_call, up_to_break, up_to_continue}
 use Rattle.c65_code.specs.Moves.{labelled}
 use Rattle.c65_genstmt.specs.declared.jumps.Ways.{Ways}
 use Rattle.c65_genstmt.specs.Jumps.{following}
-use Rattle.c65_genstmt.specs.Stmts.{case_behind}
+use Rattle.c65_genstmt.specs.Stmts.{case_behind, returns_last}
 use Rattle.c65_agree_state.specs.World.{unit_in, lines_of, HasAt}
 use Rattle.c65_agree_state.specs.Stmts.{Covers, GoesOn, LeadsTo, LabelLeads, ReturnLeads, arms_weight}
-use Rattle.c65_agree_lines.specs.Lists.{stmt_code, stmts_code}
-use Rattle.c65_agree_stmts.specs.Calling.{Calling}
+use Rattle.c65_agree_lines.specs.Lists.{stmt_code, stmts_code, last_code}
+use Rattle.c65_agree_stmts.specs.Calling.{Calling, EndsIn}
 
 -- ---- the label of the lines
 
@@ -40,26 +41,6 @@ abbrev mutual
   pub label_in : Sought → ℕ → ℕ → Stmts → Option ℕ
   label_in what other next no_stmts = None
   label_in what other next (and_stmts s ss) = first_of (label_of what other next s) (label_in what other (case_behind next s) ss)
-
--- ---- arms of `if`
-
-abbrev mutual
-  -- in how many first arms, one within the other, a label may stand
-  pub arms : Stmt → ℕ
-  arms (block os ss) = arms_in ss
-  arms (if_stmt e a b) = max (1 + arms a) (arms b)
-  arms (while e s) = arms s
-  arms (do_while s e) = arms s
-  arms (for_loop i c n s) = arms s
-  arms (switch e s) = arms s
-  arms (case z s) = arms s
-  arms (default s) = arms s
-  arms (label l s) = arms s
-  arms _ = 0
-
-  pub arms_in : Stmts → ℕ
-  arms_in no_stmts = 0
-  arms_in (and_stmts s ss) = max (arms s) (arms_in ss)
 
 -- ---- what follows
 
@@ -92,3 +73,11 @@ LandsAmong x what scope at ss ways next fresh =
     (n w p : ℕ) (k : List Item) → n ≤ x.most → x.reserve ≤ w → HasAt (lines_of x.world x.active) p lines → IsAhead x n w scope k ways
     → GoesOn x.world x.active x.needs x.first x.placing x.banks x.state x.params x.result x.below x.values (suc n) w scope k (p + length lines)
     → Lands x n (w + arms_in ss) scope (after_all (unit_in x.world) what at ss k) (label_in what ways.other next ss)
+
+-- and so in a statement that stands last in its function
+abbrev pub LandsLast : Calling → Sought → List ℕ → ℕ → Stmt → Ways → ℕ → ℕ → Type 0
+LandsLast x what scope at s ways next fresh =
+    let lines = last_code x.active.frame ways next s fresh in
+    (n w p : ℕ) (k : List Item) → n ≤ x.most → x.reserve ≤ w → HasAt (lines_of x.world x.active) p lines → IsAhead x n w scope k ways
+    → EndsIn x (returns_last s) n w scope k (p + length lines)
+    → Lands x n (w + arms s) scope (after (unit_in x.world) what at s k) (label_of what ways.other next s)

@@ -1,8 +1,9 @@
 -- What the lines of each statement do, by its parts (C90 6.6): of each law the parts are the premises.
-use Rattle.std.specs.Prelude.{◌≡◌, ℕ, ℤ, suc, ◌+◌, ◌≤◌, max, length, false, List, [], ◌∷◌, ◌++◌, Some, None, slice_get}
+use Rattle.std.specs.Prelude.{◌≡◌, ℕ, ℤ, suc, ◌+◌, ◌≤◌, max, length, ◌&&◌, not, Bool, false, List, [], ◌∷◌, ◌++◌, Some, None, slice_get}
 use Rattle.c65_csem.specs.Trees.{Typed, MaybeTyped, absent, present, Stmt, empty, eval, block, if_stmt, while, do_while, for_loop, switch, case, default, label, goto, break, continue, return, Stmts, no_stmts, and_stmts}
 use Rattle.c65_csem.specs.Places.{is_place}
 use Rattle.c65_csem.specs.Statements.{cases_of}
+use Rattle.c65_csem_plain.specs.Arms.{arms}
 use Rattle.c65_ints.specs.declared.types.IntType.{IntType}
 use Rattle.c65_meaning.specs.Store.{Shape, Number}
 use Rattle.c65_meaning.specs.Items.{Item, Drop, EndSwitch, Leave, plan_stmt}
@@ -11,23 +12,26 @@ use Rattle.c65_meaning.specs.State.{Scene, Running}
 use Rattle.c65_meaning.specs.Step.{body_of}
 use Rattle.c65_meaning.specs.Sites.{count}
 use Rattle.c65_code.specs.declared.line.Line.{Line}
+use Rattle.c65_code.specs.declared.line.Line.TheVariants.{Label}
 use Rattle.c65_code.specs.LineState.{State}
 use Rattle.c65_code.specs.Comes.{Seen}
 use Rattle.c65_genexpr.specs.Types.{kind_in}
 use Rattle.c65_genexpr.specs.Uses.{uses}
+use Rattle.c65_genentry.specs.Ends.{end_code}
 use Rattle.c65_genstmt.specs.declared.jumps.Ways.{Ways}
 use Rattle.c65_genstmt.specs.Jumps.{following}
-use Rattle.c65_genstmt.specs.Stmts.{case_behind, ways, default_way}
+use Rattle.c65_genstmt.specs.Stmts.{case_behind, ways, default_way, returns_last}
+use Rattle.c65_genstmt.specs.Functions.{main_code}
 use Rattle.c65_agree_store.specs.Stands.{Placing, Banks}
 use Rattle.c65_agree_state.specs.World.{World, unit_in, Active, lines_of, place_in, HasAt, IsPlaced, HasTurns}
 use Rattle.c65_agree_state.specs.Follows.{Follows}
 use Rattle.c65_agree_state.specs.Exprs.{Yield, Does as LinesDo, shape_in}
 use Rattle.c65_agree_state.specs.Stmts.{Between, Keeping, GoesOn, LabelLeads, ReturnLeads, arms_weight}
-use Rattle.c65_agree_lines.specs.Lists.{effects_uses, guard_uses, head_uses, stmt_uses, stmt_code}
+use Rattle.c65_agree_lines.specs.Lists.{effects_uses, guard_uses, head_uses, stmt_uses, last_code}
 use Rattle.c65_agree_stmts.specs.Effects.{Effects}
-use Rattle.c65_agree_stmts.specs.Calling.{Calling, Does, AllDo, HasValue, HasTest, HasEffect, MayHaveTest, MayHaveEffect, HeadIsCounted, GotosAreCounted}
+use Rattle.c65_agree_stmts.specs.Calling.{Calling, Does, AllDo, EndsIn, LastDoes, HasValue, HasTest, HasEffect, MayHaveTest, MayHaveEffect, HeadIsCounted, GotosAreCounted}
 use Rattle.c65_agree_stmts.specs.Objects.{MayAllBegin, HasGround, MayLand}
-use Rattle.c65_agree_stmts.specs.Landings.{arms, LandsIn, LandsAmong}
+use Rattle.c65_agree_stmts.specs.Landings.{LandsIn, LandsAmong, LandsLast}
 use Rattle.c65_agree_stmts.specs.Choices.{ChoiceLeads}
 use Rattle.c65_agree_stmts.specs.Trees.{HasParts}
 
@@ -185,21 +189,28 @@ ForLands = (x : Calling) (what : Sought) (scope : List ℕ) (at next fresh : ℕ
 -- Where each label of the body leads behind its own line, in the body's lines, a `goto` may go there from anywhere in the call; the body has
 -- no more arms of `if`s within one another than a label is given weight for.
 abbrev pub LabelsLead : Type 0
-LabelsLead = (x : Calling) (w : Ways) (next fresh n v p : ℕ) → ((l : ℕ) → LandsIn x (ToLabel l) x.params 0 x.body w next fresh) → arms x.body ≤ arms_weight
-    → n ≤ x.most → x.reserve ≤ v → HasAt (lines_of x.world x.active) p (stmt_code x.active.frame w next x.body fresh)
+LabelsLead = (x : Calling) (w : Ways) (next fresh n v p : ℕ) → ((l : ℕ) → LandsLast x (ToLabel l) x.params 0 x.body w next fresh) → arms x.body ≤ arms_weight
+    → n ≤ x.most → x.reserve ≤ v → HasAt (lines_of x.world x.active) p (last_code x.active.frame w next x.body fresh)
     → ReturnLeads x.world x.active x.needs x.first x.placing x.banks x.state x.params x.result x.below x.values n v
-    → GoesOn x.world x.active x.needs x.first x.placing x.banks x.state x.params x.result x.below x.values n v x.params (Leave ∷ x.below) (p + length (stmt_code x.active.frame w next x.body fresh))
+    → EndsIn x (returns_last x.body) n v x.params (Leave ∷ x.below) (p + length (last_code x.active.frame w next x.body fresh))
     → (l : ℕ) → LabelLeads x.world x.active x.needs x.first x.placing x.banks x.state x.params x.result x.below x.values n (v + arms_weight) l (after (unit_in x.world) (ToLabel l) 0 x.body (Leave ∷ x.below))
 
 -- and so the lines of the body do its work, where its end and its returns are followed
 abbrev pub BodiesDo : Type 0
 BodiesDo = (x : Calling) (w : Ways) (next fresh n v p : ℕ) (c : Scene) (q : Placing) (b : Banks) (t : State) (seen : Seen)
-    → Does x x.params 0 x.body w next fresh → ((l : ℕ) → LandsIn x (ToLabel l) x.params 0 x.body w next fresh) → arms x.body ≤ arms_weight
-    → n ≤ x.most → x.reserve ≤ v → HasAt (lines_of x.world x.active) p (stmt_code x.active.frame w next x.body fresh)
+    → LastDoes x x.params 0 x.body w next fresh → ((l : ℕ) → LandsLast x (ToLabel l) x.params 0 x.body w next fresh) → arms x.body ≤ arms_weight
+    → n ≤ x.most → x.reserve ≤ v → HasAt (lines_of x.world x.active) p (last_code x.active.frame w next x.body fresh)
     → Between x.world x.active x.needs x.params c q b t → Keeping x.active x.first x.placing x.banks x.state c q b t → HasTurns x.world c.turns (place_in x.world x.active p) seen
     → ReturnLeads x.world x.active x.needs x.first x.placing x.banks x.state x.params x.result x.below x.values n v
-    → GoesOn x.world x.active x.needs x.first x.placing x.banks x.state x.params x.result x.below x.values n v x.params (Leave ∷ x.below) (p + length (stmt_code x.active.frame w next x.body fresh))
+    → EndsIn x (returns_last x.body) n v x.params (Leave ∷ x.below) (p + length (last_code x.active.frame w next x.body fresh))
     → Follows x.world n v (Running (plan_stmt (unit_in x.world) 0 x.body (Leave ∷ x.below)) x.values c) (place_in x.world x.active p) t seen
+
+-- Behind the lines of a body stands what `main` gives at its end, where no return does, and then the function's end.
+abbrev pub BodiesEnd : Type 0
+BodiesEnd = (x : Calling) (is_main : Bool) (n v p : ℕ) (scope : List ℕ) (k : List Item) → IsPlaced (lines_of x.world x.active)
+    → HasAt (lines_of x.world x.active) p (main_code (is_main && not (returns_last x.body)) ++ Label 0 ∷ end_code x.active.frame)
+    → (returns_last x.body ≡ false → GoesOn x.world x.active x.needs x.first x.placing x.banks x.state x.params x.result x.below x.values n v scope k p)
+    → EndsIn x (returns_last x.body) n v scope k p
 
 -- ---- switch
 
@@ -225,3 +236,9 @@ abbrev pub StatementsDo : Type 0
 StatementsDo = (x : Calling) (scope : List ℕ) (at next fresh : ℕ) (w : Ways) (s : Stmt) → IsPlaced (lines_of x.world x.active) → HasGround x
     → body_of (slice_get (unit_in x.world).funcs x.active.func) ≡ Some x.body → HasParts x scope at s w next fresh
     → Does x scope at s w next fresh × ((what : Sought) → LandsIn x what scope at s w next fresh)
+
+-- and so do those of a statement that stands last in its function, whose return has no jump
+abbrev pub LastsDo : Type 0
+LastsDo = (x : Calling) (scope : List ℕ) (at next fresh : ℕ) (w : Ways) (s : Stmt) → IsPlaced (lines_of x.world x.active) → HasGround x
+    → body_of (slice_get (unit_in x.world).funcs x.active.func) ≡ Some x.body → HasParts x scope at s w next fresh
+    → LastDoes x scope at s w next fresh × ((what : Sought) → LandsLast x what scope at s w next fresh)

@@ -4,6 +4,7 @@ use Rattle.c65_ints.specs.declared.types.IntType.{IntType}
 use Rattle.c65_csem.specs.Trees.{Typed, present, Stmt, eval, set_part, clear, block, if_stmt, while, do_while, for_loop, switch, case, default, label, goto, return, Stmts, no_stmts, and_stmts}
 use Rattle.c65_csem.specs.Places.{is_place}
 use Rattle.c65_csem.specs.Statements.{cases_of}
+use Rattle.c65_csem_plain.specs.Arms.{arms}
 use Rattle.c65_meaning.specs.Store.{Number}
 use Rattle.c65_meaning.specs.Items.{Item, EndSwitch, Leave}
 use Rattle.c65_meaning.specs.After.{Sought, ToLabel, Landing, after}
@@ -19,7 +20,6 @@ use Rattle.c65_agree_state.specs.Stmts.{arms_weight}
 use Rattle.c65_agree_lines.specs.Lists.{effects_uses, guard_uses, head_uses, stmt_uses}
 use Rattle.c65_agree_stmts.specs.Calling.{Calling, Does, HasValue, HasTest, HasEffect, MayHaveTest, MayHaveEffect, HeadIsCounted, GotosAreCounted}
 use Rattle.c65_agree_stmts.specs.Objects.{MayAllBegin, MayLand}
-use Rattle.c65_agree_stmts.specs.Landings.{arms}
 use Rattle.c65_agree_stmts.specs.Choices.{ChoiceLeads}
 
 -- a value that a function gives

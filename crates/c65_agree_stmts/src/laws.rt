@@ -1,5 +1,5 @@
 // Laws of the lines of statements, each the contract of a function that does nothing.
-ghost use Rattle.c65_agree_stmts.specs.Laws.{BlockDoes, BlockLands, BodiesDo, BothDo, BothLand, BreakDoes, CaseDoes, CaseLands, ContinueDoes, DefaultDoes, DefaultLands, DoDoes, DoLands, EffectsJoin, EmptyDoes, EvalDoes, ForDoes, ForLands, GotoDoes, IfDoes, IfLands, LabelDoes, LabelLands, LabelsLead, NoneDo, OpenBlockDoes, ReturnDoes, ReturnOfDoes, StatementsDo, SwitchDoes, SwitchLands, ValuesAreEffects, WhileDoes, WhileLands};
+ghost use Rattle.c65_agree_stmts.specs.Laws.{BlockDoes, BlockLands, BodiesDo, BodiesEnd, BothDo, BothLand, BreakDoes, CaseDoes, CaseLands, ContinueDoes, DefaultDoes, DefaultLands, DoDoes, DoLands, EffectsJoin, EmptyDoes, EvalDoes, ForDoes, ForLands, GotoDoes, IfDoes, IfLands, LabelDoes, LabelLands, LabelsLead, LastsDo, NoneDo, OpenBlockDoes, ReturnDoes, ReturnOfDoes, StatementsDo, SwitchDoes, SwitchLands, ValuesAreEffects, WhileDoes, WhileLands};
 
 /// Lines that give a value do the work also where it is not used.
 pub fn values_are_effects()
@@ -166,7 +166,17 @@ pub fn bodies_do()
     ensures { BodiesDo }
 {}
 
+/// Behind a body that returns at its end the end of the function stands.
+pub fn bodies_end()
+    ensures { BodiesEnd }
+{}
+
 /// The lines of each statement do its work, where its expressions do theirs.
 pub fn statements_do()
     ensures { StatementsDo }
+{}
+
+/// Where it stands last in its function, a return at its end needs no jump.
+pub fn lasts_do()
+    ensures { LastsDo }
 {}

@@ -1,0 +1,11 @@
+pub mod Tells
+pub mod Signed
+pub mod Leading
+pub mod Words
+pub mod Raised
+pub mod Lows
+pub mod Bytes
+pub mod RaisedBytes
+pub mod ReadBytes
+pub mod LowSums
+pub mod Lines

@@ -1,0 +1,5 @@
+use Rattle.c65_agree_order.proofs.Bytes.{bytes_settle}
+use Rattle.c65_agree_order.proofs.laws.bytes_settle.Goals as goal
+
+pub returns : goal.returns
+returns c = bytes_settle
