@@ -10,11 +10,11 @@ use Rattle.c65_pieces.specs.declared.text.Edge.{Edge}
 use Rattle.c65_pieces.specs.declared.text.Text.{Text}
 use Rattle.c65_pieces.specs.Settled.{as_cells}
 use Rattle.c65_pieces.specs.Given.{pending_bytes, is_nothing, cells_from, room, AreSorted, IsSettled, AreAdded, IsFlushed, IsClosed}
-use Rattle.c65_pieces.proofs.Settling.{joint_plain, settle_joined, settle_sorted, cells_join}
+use Rattle.c65_pieces.proofs.Settling.{joint_plain, settle_joined, settle_sorted, settle_further, cells_join}
 
 -- a text with nothing pending
 abbrev pub bared : Text → Text
-bared t = record { settled = t.settled; ready = t.ready; edge = record { line = t.edge.line; column = t.edge.column; pending = Nothing } }
+bared t = record { settled = t.settled; ready = t.ready; long = t.long; edge = record { line = t.edge.line; column = t.edge.column; pending = Nothing } }
 
 from_bared : (e : Edge) (more : List ℕ) → e.pending ≡ Nothing → cells_from e more ≡ cells e.line e.column more
 from_bared e more h = rw h refl
@@ -71,6 +71,7 @@ flushed_one old new b h n s =
       length_is = omega (arith, s.length_is, ap (λ (x : List ℕ). length x) h);
       capacity_is = s.capacity_is;
       none_if = λ e. let f : false ≡ true = sym n ∙ e in absurd cc;
+      further = settle_further (bared old) new b s;
       sorted = settle_sorted (bared old) new b s;
     }
 
@@ -84,6 +85,7 @@ flushed_two old first new b c h n j s t =
       length_is = omega (arith, s.length_is, t.length_is, ap (λ (x : List ℕ). length x) h);
       capacity_is = t.capacity_is ∙ s.capacity_is;
       none_if = λ e. let f : false ≡ true = sym n ∙ e in absurd cc;
+      further = λ r. omega (arith, settle_further (bared old) first b s r, settle_further first new c t (settle_sorted (bared old) first b s r));
       sorted = λ r. settle_sorted first new c t (settle_sorted (bared old) first b s r);
     }
 
@@ -129,27 +131,36 @@ room_most e = by ((e.column == 0) && is_nothing e.pending)
     by true = omega arith
     by false = omega arith
 
-pub closed_line : (old flushed new : Text) → IsFlushed old flushed → (flushed.edge.column == 0) ≡ false → IsSettled flushed 10 new → AreSorted old.settled.items old.ready old.edge.column → IsClosed old new
+-- the end of the last line is the end of whole lines, if none is too long
+ready_behind : (old new : Text) → IsSettled old 10 new → new.long ≡ false → new.ready ≡ length new.settled.items
+ready_behind old new s h = by old.long refl
+  where
+    by : (t : Bool) → old.long ≡ t → new.ready ≡ length new.settled.items
+    by true e = let k : new.long ≡ true = rw e at s.long_is in let f : true ≡ false = sym k ∙ h in absurd cc
+    by false e = rw e at s.ready_is
+
+pub closed_line : (old flushed new : Text) → IsFlushed old flushed → (flushed.edge.column == 0) ≡ false → IsSettled flushed 10 new → AreSorted old.settled.items old.ready old.long old.edge.column → IsClosed old new
 closed_line old flushed new f k s r =
     let cell : Settled = record { byte = 10; line = flushed.edge.line; column = flushed.edge.column } in
     record {
       all = ap as_cells s.settled_is ∙ cells_join flushed.settled.items (cell ∷ []) ∙ ap (λ (x : List Cell). as_cells flushed.settled.items ++ x) (sym (last_end flushed.edge f.none k)) ∙ f.joined;
       edge_is = (ap (λ (e : Edge). e.column) s.edge_is, pending_after flushed new 10 s f.none);
-      ready_is = s.ready_is;
+      ready_is = ready_behind flushed new s;
+      further = omega (arith, f.further r, settle_further flushed new 10 s (f.sorted r));
       length_is = omega (arith, s.length_is, f.length_is, room_some old flushed f k);
       capacity_is = s.capacity_is ∙ f.capacity_is;
       sorted = settle_sorted flushed new 10 s (f.sorted r);
     }
 
-pub closed_here : (old flushed : Text) → IsFlushed old flushed → (flushed.edge.column == 0) ≡ true → AreSorted old.settled.items old.ready old.edge.column → IsClosed old flushed
+pub closed_here : (old flushed : Text) → IsFlushed old flushed → (flushed.edge.column == 0) ≡ true → AreSorted old.settled.items old.ready old.long old.edge.column → IsClosed old flushed
 closed_here old flushed f k r =
     let z : flushed.edge.column ≡ 0 = grind (arith, nat_tests) in
     let q = f.sorted r in
-    let c : length flushed.settled.items ≤ flushed.ready + flushed.edge.column = q.counted (omega arith) in
     record {
       all = sym (append-nil (as_cells flushed.settled.items)) ∙ ap (λ (x : List Cell). as_cells flushed.settled.items ++ x) (sym (no_last_end flushed.edge f.none k)) ∙ f.joined;
       edge_is = (z, f.none);
-      ready_is = omega (arith, q.within);
+      ready_is = λ l. let c : length flushed.settled.items ≤ flushed.ready + flushed.edge.column = (q.counted l).1 in omega (arith, q.within);
+      further = f.further r;
       length_is = omega (arith, f.length_is, room_least old.edge);
       capacity_is = f.capacity_is;
       sorted = q;

@@ -7,7 +7,7 @@ use Rattle.c65_lex.specs.Cells.{Cell, bytes, begins_with, is_long}
 use Rattle.c65_lex.specs.Spellings.{IsToken, is_white, class_of}
 use Rattle.c65_lex.specs.Lengths.{token_of}
 use Rattle.c65_lex.specs.Blanks.{Blank, Blanks, blank_of, none, over, unclosed, too_long, past_line, past_comment, past_star, opens}
-use Rattle.c65_lex.specs.Next.{ended, long_line, token, is_any_long, first_line, IsLongHere, IsNext}
+use Rattle.c65_lex.specs.Next.{ended, token, is_any_long, first_line, IsNext}
 use Rattle.c65_lex.proofs.Bytes.{eq_is, both}
 use Rattle.c65_lex.proofs.Longest.{Found, token_is}
 use Rattle.c65_lex.proofs.Tokens.{none_white}
@@ -188,7 +188,7 @@ first_more : (cs xs : List Cell) → ends (bytes cs) ≡ true → first_line (cs
 first_more [] xs h = absurd cc
 first_more (c ∷ cs) xs h = refl
 
--- a token, or a line that is too long, comes next whatever follows the lines
+-- a token comes next whatever follows the lines
 module _ (header : Bool) (start xs : List Cell) (lines : ends (bytes start) ≡ true) where
   pub next_token : (kind : PpKind) (spelling : List ℕ) (line : ℕ) (space : Bool) (rest : List Cell) → IsNext header start (token kind spelling line space rest) → IsNext header (start ++ xs) (token kind spelling line space (rest ++ xs))
   next_token kind spelling line space rest p =
@@ -212,17 +212,6 @@ module _ (header : Bool) (start xs : List Cell) (lines : ends (bytes start) ≡ 
           },
         );
       }
-
-  long_more : (cs : List Cell) → ends (bytes cs) ≡ true → IsLongHere header cs → IsLongHere header (cs ++ xs)
-  long_more cs h (inl e) = inl (blank_more cs xs h ∙ ap (further xs) e)
-  long_more cs h (inr (e, kind, size, t, b)) =
-      let f : size ≤ length cs = omega (arith, t.fits, cells_count cs) in
-      inr (blank_more cs xs h ∙ ap (further xs) e, kind, size, token_stays header cs xs kind size h e t, ap is_any_long (take_more_cells size cs xs f) ∙ b)
-
-  pub next_long : IsNext header start long_line → IsNext header (start ++ xs) long_line
-  next_long p =
-      let h = blanks_end p.blanks start p.cells lines p.behind in
-      record { blanks = p.blanks; cells = p.cells ++ xs; behind = blanks_more p.blanks start p.cells xs lines p.behind; stands = long_more p.cells h p.stands }
 
   pub not_ended : IsNext header start ended → ⊥
   not_ended p =

@@ -1,6 +1,5 @@
 -- What a lexer holds: whole lines, and the line behind them.
 use Rattle.std.proofs.Common.{◌≡◌, ℕ, zero, suc, ◌+◌, ◌-◌, ◌≤◌, List, [], ◌∷◌, ◌++◌, length, length-drop, take, drop, refl, sym, ap, ◌∙◌, subst, arith, Bool, true, false, ◌⊎◌, inl, inr, Option, Some, None, vec_len, vec_capacity}
-use Rattle.std.specs.Prelude.{◌==◌, ◌||◌}
 use Rattle.c65_lex.specs.Cells.{Cell, bytes}
 use Rattle.c65_lex.specs.Next.{is_any_long}
 use Rattle.c65_pieces.specs.declared.settled.Settled.{Settled}
@@ -8,11 +7,13 @@ use Rattle.c65_pieces.specs.declared.text.Pending.{Pending}
 use Rattle.c65_pieces.specs.declared.text.Pending.TheVariants.{Nothing, Return, Backslash, BackslashReturn}
 use Rattle.c65_pieces.specs.declared.text.Edge.{Edge}
 use Rattle.c65_pieces.specs.declared.text.Text.{Text}
-use Rattle.c65_pieces.specs.Settled.{as_cells, ahead}
+use Rattle.c65_pieces.specs.Settled.{as_cell, as_cells, ahead}
 use Rattle.c65_pieces.specs.Scanned.{opening}
-use Rattle.c65_pieces.specs.Given.{ends, AreLines, has_line_end, pending_bytes, cells_from, AreSorted, AreAdded}
-use Rattle.c65_pieces.specs.Pieces.{whole_lines, IsExtended}
+use Rattle.c65_pieces.specs.Given.{ends, AreLines, pending_bytes, cells_from, AreSorted, AreAdded}
+use Rattle.c65_pieces.specs.Pieces.{IsExtended}
+use Rattle.c65_pieces.specs.Lines.{is_sound}
 use Rattle.c65_pieces.proofs.Adding.{room_most}
+use Rattle.c65_pieces.proofs.Sound.{any_rest}
 
 pub pending_short : (p : Pending) → length (pending_bytes p) ≤ 2
 pending_short Nothing = omega arith
@@ -63,22 +64,28 @@ drop_rest (suc a) (suc r) [] h = by (suc r - suc a)
     by (suc n) = refl
 drop_rest (suc a) (suc r) (x ∷ xs) h = let e : suc r - suc a ≡ r - a = omega arith in rw e (drop_rest a r xs (omega arith))
 
-pub sorted_drop : (xs : List Settled) (ready k at : ℕ) → at ≤ ready → AreSorted xs ready k → AreSorted (drop at xs) (ready - at) k
-sorted_drop xs ready k at h s =
+pub short_drop : (at : ℕ) (xs : List Settled) → is_any_long (as_cells xs) ≡ false → is_any_long (as_cells (drop at xs)) ≡ false
+short_drop zero xs h = h
+short_drop (suc n) [] h = refl
+short_drop (suc n) (x ∷ xs) h = short_drop n xs (any_rest (as_cell x) (as_cells xs) h)
+
+pub sorted_drop : (xs : List Settled) (ready : ℕ) (long : Bool) (k at : ℕ) → at ≤ ready → AreSorted xs ready long k → AreSorted (drop at xs) (ready - at) long k
+sorted_drop xs ready long k at h s =
     let d : length (drop at xs) ≡ length xs - at = length-drop at xs in
     let w = s.within in
     record {
       within = omega arith;
       lines = subst (λ (ys : List Settled). AreLines (as_cells ys)) (sym (take_drop at ready xs h)) (lines_drop at (take ready xs) s.lines);
-      held = ap (λ (ys : List Settled). has_line_end (as_cells ys)) (drop_rest at ready xs h) ∙ s.held;
-      counted = λ l. let c : length xs ≤ ready + k = s.counted l in omega arith;
-      long = λ l. ap (λ (ys : List Settled). is_any_long (as_cells ys)) (drop_rest at ready xs h) ∙ s.long l;
+      short = ap (λ (ys : List Settled). is_any_long (as_cells ys)) (take_drop at ready xs h) ∙ short_drop at (take ready xs) s.short;
+      held = ap (λ (ys : List Settled). is_sound (as_cells ys)) (drop_rest at ready xs h) ∙ s.held;
+      long_is = ap (λ (ys : List Settled). is_any_long (as_cells ys)) (drop_rest at ready xs h) ∙ s.long_is;
+      counted = λ l. let c = s.counted l in (c.0, omega (arith, c.1));
     }
 
 -- a piece behind what is left
-pub extends : (old base new : Text) (at : ℕ) (piece : List ℕ) → at ≤ old.ready → AreSorted old.settled.items old.ready old.edge.column → base.settled.items ≡ drop at old.settled.items → base.ready ≡ old.ready - at → base.edge ≡ old.edge → vec_len base.settled ≡ length (drop at old.settled.items) → (length (drop at old.settled.items) + length piece) + 3 ≤ vec_capacity base.settled → AreAdded base piece new → IsExtended old at piece new
+pub extends : (old base new : Text) (at : ℕ) (piece : List ℕ) → at ≤ old.ready → AreSorted old.settled.items old.ready old.long old.edge.column → base.settled.items ≡ drop at old.settled.items → base.ready ≡ old.ready - at → base.long ≡ old.long → base.edge ≡ old.edge → vec_len base.settled ≡ length (drop at old.settled.items) → (length (drop at old.settled.items) + length piece) + 3 ≤ vec_capacity base.settled → AreAdded base piece new → IsExtended old at piece new
 unfolding ahead
-extends old base new at piece h s items ready edge len cap a =
+extends old base new at piece h s items ready long edge len cap a =
     let p = pending_short old.edge.pending in
     let q = room_most new.edge in
     let l : vec_len new.settled + length (pending_bytes new.edge.pending) ≤ (vec_len base.settled + length (pending_bytes base.edge.pending)) + length piece = a.length_is in
@@ -87,30 +94,10 @@ extends old base new at piece h s items ready edge len cap a =
     let d = a.capacity_is in
     record {
       joined = λ more. a.joined more ∙ ap (λ (ys : List Settled). as_cells ys ++ cells_from base.edge (piece ++ more)) items ∙ ap (λ (e : Edge). as_cells (drop at old.settled.items) ++ cells_from e (piece ++ more)) edge;
-      sorted = a.sorted (rw (items, ready, edge) (sorted_drop old.settled.items old.ready old.edge.column at h s));
+      sorted = a.sorted (rw (items, ready, long, edge) (sorted_drop old.settled.items old.ready old.long old.edge.column at h s));
       spare = omega arith;
       length_is = omega arith;
     }
-
--- up to the last line feed
-ends_has : (cs xs : List Cell) → ends (bytes cs) ≡ true → has_line_end (cs ++ xs) ≡ true
-ends_has [] xs h = absurd cc
-ends_has (c ∷ []) xs h = rw h refl
-ends_has (c ∷ d ∷ cs) xs h = by (c.byte == 10) (ends_has (d ∷ cs) xs h)
-  where
-    by : (t : Bool) → has_line_end (d ∷ cs ++ xs) ≡ true → t || has_line_end (d ∷ cs ++ xs) ≡ true
-    by true i = refl
-    by false i = i
-
-no_lines : (xs : List Cell) → has_line_end xs ≡ false → whole_lines xs ≡ []
-no_lines [] h = refl
-no_lines (x ∷ xs) h = rw h refl
-
-pub whole_of : (cs xs : List Cell) → AreLines cs → has_line_end xs ≡ false → whole_lines (cs ++ xs) ≡ cs
-whole_of [] xs l h = no_lines xs h
-whole_of (c ∷ cs) xs (inl e) h = absurd cc
-whole_of (c ∷ []) xs (inr e) h = rw (ends_has (c ∷ []) xs e) (ap (λ (ys : List Cell). c ∷ ys) (no_lines xs h))
-whole_of (c ∷ d ∷ cs) xs (inr e) h = rw (ends_has (c ∷ d ∷ cs) xs e) (ap (λ (ys : List Cell). c ∷ ys) (whole_of (d ∷ cs) xs (inr e) h))
 
 -- behind the beginning of a comment lines are lines
 pub opened_lines : (comment : Option ℕ) (cs : List Cell) → AreLines cs → ((comment ≡ None) × (cs ≡ [])) ⊎ (ends (bytes (opening comment ++ cs)) ≡ true)

@@ -1,7 +1,9 @@
+mod Sound
 mod Ahead
 mod Lookahead
 mod Further
 mod Opened
+mod ByLines
 mod Settling
 mod Adding
 mod Held

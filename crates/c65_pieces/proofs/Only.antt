@@ -1,18 +1,19 @@
 -- What an answer says of the text.
-use Rattle.std.proofs.Common.{◌≡◌, ℕ, ◌≤◌, List, [], ◌++◌, append-nil, refl, sym, ap, ◌∙◌, subst, arith, Bool, true, false, inl, inr, Option, Some, None, Ok, Err, OnErr}
-use Rattle.std.specs.Prelude.{nat_le}
-use Rattle.std.proofs.lemmas.Bool.Decides.{nat_tests}
+use Rattle.std.proofs.Common.{◌≡◌, ℕ, List, [], ◌++◌, append-nil, refl, sym, ap, ◌∙◌, subst, Bool, true, false, inl, inr, Option, Some, None, Ok, Err, OnErr}
+use Rattle.std.specs.Prelude.{◌||◌}
 use Rattle.c65_base.specs.declared.refusal.Refusal.{Refusal}
 use Rattle.c65_base.specs.declared.refusal.Refusal.TheVariants.{At}
 use Rattle.c65_base.specs.declared.code.Code.TheVariants.{OpenComment}
 use Rattle.c65_lex.specs.Cells.{Cell}
-use Rattle.c65_lex.specs.Next.{Next, ended, open_comment, long_line, token, IsNext}
+use Rattle.c65_lex.specs.Next.{Next, ended, open_comment, long_line, token, is_any_long, IsNext}
 use Rattle.c65_lex.proofs.Unique.{one_next}
 use Rattle.c65_pieces.specs.declared.text.Edge.{Edge}
 use Rattle.c65_pieces.specs.declared.lexer.Lexed.TheVariants.{Token, More, End}
 use Rattle.c65_pieces.specs.Scanned.{opening}
-use Rattle.c65_pieces.specs.Pieces.{Pieces, IsOpen, TakesPiece, ahead_of, lines_in, lines_of, text_from}
-use Rattle.c65_pieces.specs.Answers.{IsWaiting, Answer, AnswersHeld, AnswersLines, Answers, IsAnswered, HasNone, MayGoOn, IsKept}
+use Rattle.c65_pieces.specs.Lines.{sound_lines, behind_lines, unless_long, before_cells, IsNextByLines}
+use Rattle.c65_pieces.specs.Pieces.{Pieces, IsOpen, TakesPiece, ahead_of, lines_of, text_from, is_too_long}
+use Rattle.c65_pieces.specs.Answers.{IsWaiting, Answer, ComesByLines, AnswersLines, Answers, IsAnswered, HasNone, MayGoOn, IsKept}
+use Rattle.c65_pieces.proofs.Sound.{any_join, sound_join, opening_short, opening_lines}
 
 answers_as : (header : Bool) (old new : Pieces) (names after : List (List ℕ)) (a b : Answer) (next : Next) → a ≡ b → Answers header old names next a new after → Answers header old names next b new after
 answers_as header old new names after a b next e q = subst (λ (x : Answer). Answers header old names next x new after) e q
@@ -36,109 +37,109 @@ more_end : (let r : Answer = Ok More in r ≡ Ok End) → ⊥
 more_end f = cc
 
 -- where no token is left, and the answer is that more bytes are wanted
-lines_more : (edge : Option Edge) (finished : Answer) (old new : Pieces) (names after : List (List ℕ)) (r : Answer) → AnswersLines edge finished old names r new after → r ≡ Ok More → (finished ≡ Ok More → ⊥) → MayGoOn edge
-lines_more None finished old new names after r q e f = absurd (f (sym q.0 ∙ e))
-lines_more (Some edge) finished old new names after r q e f = by (nat_le edge.column 32767) refl q
-  where
-    by : (t : Bool) → nat_le edge.column 32767 ≡ t → AnswersHeld t old names r new after → edge.column ≤ 32767
-    by true k q = grind (arith, nat_tests)
-    by false k q = absurd (err_more _ (sym q.0 ∙ e))
+lines_more : (header long : Bool) (edge : Option Edge) (next : Next) (finished : Answer) (old new : Pieces) (names after : List (List ℕ)) (r : Answer) → AnswersLines header long edge next finished old names r new after → r ≡ Ok More → (finished ≡ Ok More → ⊥) → IsOpen edge × (long ≡ false)
+lines_more header true edge next finished old new names after r q e f = absurd (err_more _ (sym q.0 ∙ e))
+lines_more header false None next finished old new names after r q e f = absurd (f (sym q.0 ∙ e))
+lines_more header false (Some edge) next finished old new names after r q e f = (tt, refl)
 
-waits : (edge : Option Edge) (finished : Answer) (old new : Pieces) (names after : List (List ℕ)) (r : Answer) → AnswersLines edge finished old names r new after → r ≡ Ok More → (finished ≡ Ok More → ⊥) → IsWaiting old new
-waits None finished old new names after r q e f = absurd (f (sym q.0 ∙ e))
-waits (Some edge) finished old new names after r q e f = by (nat_le edge.column 32767) q
-  where
-    by : (t : Bool) → AnswersHeld t old names r new after → IsWaiting old new
-    by true q = q.1
-    by false q = absurd (err_more _ (sym q.0 ∙ e))
+waits : (header long : Bool) (edge : Option Edge) (next : Next) (finished : Answer) (old new : Pieces) (names after : List (List ℕ)) (r : Answer) → AnswersLines header long edge next finished old names r new after → r ≡ Ok More → (finished ≡ Ok More → ⊥) → IsWaiting old new
+waits header true edge next finished old new names after r q e f = absurd (err_more _ (sym q.0 ∙ e))
+waits header false None next finished old new names after r q e f = absurd (f (sym q.0 ∙ e))
+waits header false (Some edge) next finished old new names after r q e f = q.1
 
-more_lines : (edge : Option Edge) (finished : Answer) (old new : Pieces) (names after : List (List ℕ)) (r : Answer) → AnswersLines edge finished old names r new after → MayGoOn edge → r ≡ Ok More
-more_lines None finished old new names after r q h = absurd h
-more_lines (Some edge) finished old new names after r q h =
-    let t : nat_le edge.column 32767 ≡ true = grind (arith, nat_tests) in
-    (subst (λ (x : Bool). AnswersHeld x old names r new after) t q).0
+more_lines : (header long : Bool) (edge : Option Edge) (next : Next) (finished : Answer) (old new : Pieces) (names after : List (List ℕ)) (r : Answer) → AnswersLines header long edge next finished old names r new after → IsOpen edge → long ≡ false → r ≡ Ok More
+more_lines header true edge next finished old new names after r q o h = absurd cc
+more_lines header false None next finished old new names after r q o h = absurd o
+more_lines header false (Some edge) next finished old new names after r q o h = q.0
 
-lines_end : (edge : Option Edge) (finished : Answer) (old new : Pieces) (names after : List (List ℕ)) (r : Answer) → AnswersLines edge finished old names r new after → r ≡ Ok End → (edge ≡ None) × (finished ≡ Ok End)
-lines_end None finished old new names after r q e = (refl, sym q.0 ∙ e)
-lines_end (Some edge) finished old new names after r q e = by (nat_le edge.column 32767) q
-  where
-    by : (t : Bool) → AnswersHeld t old names r new after → (let o : Option Edge = Some edge in o ≡ None) × (finished ≡ Ok End)
-    by true q = absurd (more_end (sym q.0 ∙ e))
-    by false q = absurd (err_end _ (sym q.0 ∙ e))
+lines_end : (header long : Bool) (edge : Option Edge) (next : Next) (finished : Answer) (old new : Pieces) (names after : List (List ℕ)) (r : Answer) → AnswersLines header long edge next finished old names r new after → r ≡ Ok End → (edge ≡ None) × (finished ≡ Ok End) × ((more : List ℕ) → IsNext header (ahead_of old more) next) × ComesByLines header old next
+lines_end header true edge next finished old new names after r q e = absurd (err_end _ (sym q.0 ∙ e))
+lines_end header false None next finished old new names after r q e = (refl, sym q.0 ∙ e, q.2, q.3)
+lines_end header false (Some edge) next finished old new names after r q e = absurd (more_end (sym q.0 ∙ e))
 
-pub more_is : (header : Bool) (old new : Pieces) (names after : List (List ℕ)) (r : Answer) → IsAnswered header old names r new after → r ≡ Ok More → HasNone header old × MayGoOn old.edge
-more_is header old new names after r (ended, p, q) e = (inl p, lines_more old.edge (Ok End) old new names after r q e end_more)
-more_is header old new names after r (open_comment line, p, q) e = (inr (line, p), lines_more old.edge (Err (At OpenComment (record { file = old.file; line = line }))) old new names after r q e (err_more _))
-more_is header old new names after r (long_line, p, (inl f, k, m)) e = absurd (err_more _ (sym f ∙ e))
-more_is header old new names after r (long_line, p, (inr f, k, m)) e = absurd (err_more _ (sym f ∙ e))
+pub more_is : (header : Bool) (old new : Pieces) (names after : List (List ℕ)) (r : Answer) → IsAnswered header old names r new after → r ≡ Ok More → HasNone header old × MayGoOn old
+more_is header old new names after r (ended, p, q) e = (inl p, lines_more header (is_too_long old) old.edge ended (Ok End) old new names after r q e end_more)
+more_is header old new names after r (open_comment line, p, q) e = (inr (line, p), lines_more header (is_too_long old) old.edge (open_comment line) (Err (At OpenComment (record { file = old.file; line = line }))) old new names after r q e (err_more _))
+more_is header old new names after r (long_line, p, q) e = absurd q
 more_is header old new names after (Ok (Token given)) (token kind spelling line space rest, p, q) e = absurd cc
 more_is header old new names after (Ok More) (token kind spelling line space rest, p, q) e = absurd q
 more_is header old new names after (Ok End) (token kind spelling line space rest, p, q) e = absurd q
 more_is header old new names after (Err refusal) (token kind spelling line space rest, p, q) e = absurd (err_more refusal e)
 
 waits_more : (header : Bool) (old new : Pieces) (names after : List (List ℕ)) (r : Answer) → IsAnswered header old names r new after → r ≡ Ok More → IsWaiting old new
-waits_more header old new names after r (ended, p, q) e = waits old.edge (Ok End) old new names after r q e end_more
-waits_more header old new names after r (open_comment line, p, q) e = waits old.edge (Err (At OpenComment (record { file = old.file; line = line }))) old new names after r q e (err_more _)
-waits_more header old new names after r (long_line, p, (inl f, k, m)) e = absurd (err_more _ (sym f ∙ e))
-waits_more header old new names after r (long_line, p, (inr f, k, m)) e = absurd (err_more _ (sym f ∙ e))
+waits_more header old new names after r (ended, p, q) e = waits header (is_too_long old) old.edge ended (Ok End) old new names after r q e end_more
+waits_more header old new names after r (open_comment line, p, q) e = waits header (is_too_long old) old.edge (open_comment line) (Err (At OpenComment (record { file = old.file; line = line }))) old new names after r q e (err_more _)
+waits_more header old new names after r (long_line, p, q) e = absurd q
 waits_more header old new names after (Ok (Token given)) (token kind spelling line space rest, p, q) e = absurd cc
 waits_more header old new names after (Ok More) (token kind spelling line space rest, p, q) e = absurd q
 waits_more header old new names after (Ok End) (token kind spelling line space rest, p, q) e = absurd q
 waits_more header old new names after (Err refusal) (token kind spelling line space rest, p, q) e = absurd (err_more refusal e)
 
-may_open : (edge : Option Edge) → MayGoOn edge → IsOpen edge
-may_open None h = h
-may_open (Some edge) h = tt
-
 pub takes_piece : (header : Bool) (old new : Pieces) (names after : List (List ℕ)) (r : Answer) → IsAnswered header old names r new after → r ≡ Ok More → TakesPiece new
 takes_piece header old new names after r a e =
     let w = waits_more header old new names after r a e in
-    let o = may_open old.edge (more_is header old new names after r a e).1 in
+    let o = (more_is header old new names after r a e).1.0 in
     record { goes_on = subst IsOpen (sym w.edge_is) o; few = w.few }
 
-pub is_more : (header : Bool) (old new : Pieces) (names after : List (List ℕ)) (r : Answer) → IsAnswered header old names r new after → HasNone header old × MayGoOn old.edge → r ≡ Ok More
-is_more header old new names after r a (inl n, h) = more_lines old.edge (Ok End) old new names after r (only_for header old new names after r a ended n) h
-is_more header old new names after r a (inr (line, n), h) = more_lines old.edge (Err (At OpenComment (record { file = old.file; line = line }))) old new names after r (only_for header old new names after r a (open_comment line) n) h
+pub is_more : (header : Bool) (old new : Pieces) (names after : List (List ℕ)) (r : Answer) → IsAnswered header old names r new after → HasNone header old × MayGoOn old → r ≡ Ok More
+is_more header old new names after r a (inl n, h) = more_lines header (is_too_long old) old.edge ended (Ok End) old new names after r (only_for header old new names after r a ended n) h.0 h.1
+is_more header old new names after r a (inr (line, n), h) = more_lines header (is_too_long old) old.edge (open_comment line) (Err (At OpenComment (record { file = old.file; line = line }))) old new names after r (only_for header old new names after r a (open_comment line) n) h.0 h.1
 
--- a finished text is all there is
-finished_lines : (old : Pieces) → old.edge ≡ None → lines_of old ≡ ahead_of old []
-finished_lines old e =
-    ap (λ (x : Option Edge). opening old.comment ++ lines_in x old.cells) e
-    ∙ ap (λ (cs : List Cell). opening old.comment ++ cs) (sym (append-nil old.cells))
-    ∙ ap (λ (x : Option Edge). opening old.comment ++ (old.cells ++ text_from x [])) (sym e)
+-- the end of the text
+module _ (header : Bool) (old new : Pieces) (names after : List (List ℕ)) where
+  pub end_is : (r : Answer) → IsAnswered header old names r new after → r ≡ Ok End → (old.edge ≡ None) × ((more : List ℕ) → IsNext header (ahead_of old more) ended) × ComesByLines header old ended
+  end_is r (ended, p, q) e = let k = lines_end header (is_too_long old) old.edge ended (Ok End) old new names after r q e in (k.0, k.2, k.3)
+  end_is r (open_comment line, p, q) e = absurd (err_end _ (lines_end header (is_too_long old) old.edge (open_comment line) (Err (At OpenComment (record { file = old.file; line = line }))) old new names after r q e).1)
+  end_is r (long_line, p, q) e = absurd q
+  end_is (Ok (Token given)) (token kind spelling line space rest, p, q) e = absurd cc
+  end_is (Ok More) (token kind spelling line space rest, p, q) e = absurd q
+  end_is (Ok End) (token kind spelling line space rest, p, q) e = absurd q
+  end_is (Err refusal) (token kind spelling line space rest, p, q) e = absurd (err_end refusal e)
 
-at_end : (header : Bool) (old : Pieces) → old.edge ≡ None → IsNext header (lines_of old) ended → IsNext header (ahead_of old []) ended
-at_end header old e p = subst (λ (cs : List Cell). IsNext header cs ended) (finished_lines old e) p
+  -- of a text that was finished its whole lines come next, and then the first that is too long
+  finished_lines : old.edge ≡ None → sound_lines (ahead_of old []) ≡ lines_of old
+  finished_lines e =
+      ap (λ (x : Option Edge). sound_lines (opening old.comment ++ (old.cells ++ text_from x []))) e
+      ∙ ap (λ (cs : List Cell). sound_lines (opening old.comment ++ cs)) (append-nil old.cells)
+      ∙ sound_join (opening old.comment) old.cells (opening_lines old.comment) (opening_short old.comment)
 
-pub end_is : (header : Bool) (old new : Pieces) (names after : List (List ℕ)) (r : Answer) → IsAnswered header old names r new after → r ≡ Ok End → (old.edge ≡ None) × IsNext header (ahead_of old []) ended
-end_is header old new names after r (ended, p, q) e = let k = lines_end old.edge (Ok End) old new names after r q e in (k.0, at_end header old k.0 p)
-end_is header old new names after r (open_comment line, p, q) e = absurd (err_end _ (lines_end old.edge (Err (At OpenComment (record { file = old.file; line = line }))) old new names after r q e).1)
-end_is header old new names after r (long_line, p, (inl f, k, m)) e = absurd (err_end _ (sym f ∙ e))
-end_is header old new names after r (long_line, p, (inr f, k, m)) e = absurd (err_end _ (sym f ∙ e))
-end_is header old new names after (Ok (Token given)) (token kind spelling line space rest, p, q) e = absurd cc
-end_is header old new names after (Ok More) (token kind spelling line space rest, p, q) e = absurd q
-end_is header old new names after (Ok End) (token kind spelling line space rest, p, q) e = absurd q
-end_is header old new names after (Err refusal) (token kind spelling line space rest, p, q) e = absurd (err_end refusal e)
+  finished_long : old.edge ≡ None → is_any_long (ahead_of old []) ≡ is_too_long old
+  finished_long e =
+      ap (λ (x : Option Edge). is_any_long (opening old.comment ++ (old.cells ++ text_from x []))) e
+      ∙ ap (λ (cs : List Cell). is_any_long (opening old.comment ++ cs)) (append-nil old.cells)
+      ∙ any_join (opening old.comment) old.cells
+      ∙ ap (λ (t : Bool). t || is_any_long old.cells) (opening_short old.comment)
 
-over_lines : (edge : Option Edge) (finished : Answer) (old new : Pieces) (names after : List (List ℕ)) (r : Answer) → AnswersLines edge finished old names r new after → edge ≡ None → r ≡ finished
-over_lines None finished old new names after r q e = q.0
-over_lines (Some edge) finished old new names after r q e = absurd cc
+  not_long : (t : Bool) (next : Next) → ended ≡ unless_long t next → t ≡ false
+  not_long true next e = absurd cc
+  not_long false next e = refl
 
-pub is_end : (header : Bool) (old new : Pieces) (names after : List (List ℕ)) (r : Answer) → IsAnswered header old names r new after → (old.edge ≡ None) × IsNext header (ahead_of old []) ended → r ≡ Ok End
-is_end header old new names after r a (e, n) =
-    over_lines old.edge (Ok End) old new names after r (only_for header old new names after r a ended (subst (λ (cs : List Cell). IsNext header cs ended) (sym (finished_lines old e)) n)) e
+  is_ended : (t : Bool) (cs : List Cell) (among : Next) → ended ≡ before_cells t cs among → (among ≡ ended) × (t ≡ false)
+  is_ended t cs ended e = (refl, not_long t ended e)
+  is_ended true cs (open_comment line) e = absurd cc
+  is_ended false cs (open_comment line) e = absurd cc
+  is_ended t cs long_line e = absurd cc
+  is_ended t cs (token kind spelling line space rest) e = absurd cc
 
-lines_kept : (edge : Option Edge) (finished : Answer) (old new : Pieces) (names after : List (List ℕ)) (x : Refusal) → AnswersLines edge finished old names (Err x) new after → IsKept old names new after
-lines_kept None finished old new names after x q = q.1
-lines_kept (Some edge) finished old new names after x q = by (nat_le edge.column 32767) q
-  where
-    by : (t : Bool) → AnswersHeld t old names (Err x) new after → IsKept old names new after
-    by true q = absurd (err_more x q.0)
-    by false q = q.1
+  over_lines : (long : Bool) (edge : Option Edge) (next : Next) (finished : Answer) (r : Answer) → AnswersLines header long edge next finished old names r new after → long ≡ false → edge ≡ None → r ≡ finished
+  over_lines true edge next finished r q h e = absurd cc
+  over_lines false None next finished r q h e = q.0
+  over_lines false (Some edge) next finished r q h e = absurd cc
+
+  pub is_end : (r : Answer) → IsAnswered header old names r new after → (old.edge ≡ None) × IsNextByLines header (ahead_of old []) ended → r ≡ Ok End
+  is_end r a (e, (among, p, f)) =
+      let k = is_ended (is_any_long (ahead_of old [])) (behind_lines (ahead_of old [])) among f in
+      let n : IsNext header (lines_of old) ended = subst (λ (x : Next). IsNext header (lines_of old) x) k.0 (subst (λ (cs : List Cell). IsNext header cs among) (finished_lines e) p) in
+      over_lines (is_too_long old) old.edge ended (Ok End) r (only_for header old new names after r a ended n) (sym (finished_long e) ∙ k.1) e
+
+lines_kept : (header long : Bool) (edge : Option Edge) (next : Next) (finished : Answer) (old new : Pieces) (names after : List (List ℕ)) (x : Refusal) → AnswersLines header long edge next finished old names (Err x) new after → IsKept old names new after
+lines_kept header true edge next finished old new names after x q = q.1
+lines_kept header false None next finished old new names after x q = q.1
+lines_kept header false (Some edge) next finished old new names after x q = absurd (err_more x q.0)
 
 pub kept : (header : Bool) (old new : Pieces) (names after : List (List ℕ)) (r : Answer) → IsAnswered header old names r new after → OnErr r (IsKept old names new after)
 kept header old new names after (Ok x) a = tt
-kept header old new names after (Err x) (ended, p, q) = lines_kept old.edge (Ok End) old new names after x q
-kept header old new names after (Err x) (open_comment line, p, q) = lines_kept old.edge (Err (At OpenComment (record { file = old.file; line = line }))) old new names after x q
-kept header old new names after (Err x) (long_line, p, q) = q.1
+kept header old new names after (Err x) (ended, p, q) = lines_kept header (is_too_long old) old.edge ended (Ok End) old new names after x q
+kept header old new names after (Err x) (open_comment line, p, q) = lines_kept header (is_too_long old) old.edge (open_comment line) (Err (At OpenComment (record { file = old.file; line = line }))) old new names after x q
+kept header old new names after (Err x) (long_line, p, q) = absurd q
 kept header old new names after (Err x) (token kind spelling line space rest, p, q) = q.1

@@ -50,7 +50,7 @@ held_closed old new at finished h c =
     let w = h.sorted.within in
     record {
       sorted = c.sorted;
-      place = omega (arith, c.ready_is, h.place);
+      place = omega (arith, c.further, h.place);
       spare = omega (arith, c.length_is, c.capacity_is, h.spare);
       bound = omega (arith, c.length_is, h.bound);
       over = λ e. c.ready_is;

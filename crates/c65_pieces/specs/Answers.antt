@@ -1,5 +1,5 @@
 -- What the lexer answers to what comes next on the whole lines ahead.
-use Rattle.std.specs.Prelude.{◌≡◌, ◌<◌, ◌≤◌, ◌+◌, ◌⊎◌, ℕ, List, length, slice_get, Option, Some, None, Result, Ok, Err, Bool, true, false, nat_le, if◌then◌else◌}
+use Rattle.std.specs.Prelude.{◌≡◌, ◌<◌, ◌≤◌, ◌+◌, ◌⊎◌, ℕ, List, length, slice_get, Option, Some, None, Result, Ok, Err, Bool, true, false, if◌then◌else◌}
 use Rattle.c65_base.specs.declared.refusal.Refusal.{Refusal}
 use Rattle.c65_base.specs.declared.refusal.Refusal.TheVariants.{OutOfMemory, At, TooLarge}
 use Rattle.c65_base.specs.declared.refusal.Size.TheVariants.{Line, Names}
@@ -8,13 +8,14 @@ use Rattle.c65_base.specs.declared.code.Code.TheVariants.{OpenComment}
 use Rattle.c65_base.specs.Names.{name_of, with_spelling, Lacks, RefusesName}
 use Rattle.c65_lex.specs.declared.token.PpKind.{PpKind}
 use Rattle.c65_lex.specs.declared.token.PpToken.{PpToken}
-use Rattle.c65_lex.specs.Next.{Next, ended, open_comment, long_line, token, is_any_long, IsNext}
+use Rattle.c65_lex.specs.Next.{Next, ended, open_comment, long_line, token, IsNext}
 use Rattle.c65_pieces.specs.declared.text.Edge.{Edge}
 use Rattle.c65_pieces.specs.declared.lexer.Lexed.{Lexed}
 use Rattle.c65_pieces.specs.declared.lexer.Lexed.TheVariants.{Token, More, End}
 use Rattle.c65_pieces.specs.declared.lexer.Stop.{Stop}
 use Rattle.c65_pieces.specs.declared.lexer.Stop.TheVariants.{Over, Long, Wanting}
-use Rattle.c65_pieces.specs.Pieces.{Pieces, ahead_of, lines_of}
+use Rattle.c65_pieces.specs.Lines.{IsNextByLines}
+use Rattle.c65_pieces.specs.Pieces.{Pieces, IsOpen, is_too_long, ahead_of, lines_of}
 
 abbrev pub Answer : Type 0
 Answer = Result Lexed Refusal
@@ -36,6 +37,7 @@ pub record IsGiven (header : Bool) (old : Pieces) (names : List (List ℕ)) (kin
   pub file_is : new.file ≡ old.file
   pub edge_is : new.edge ≡ old.edge
   pub next : (more : List ℕ) → IsNext header (ahead_of old more) (token kind spelling line space (ahead_of new more))
+  pub by_lines : (more : List ℕ) → IsNextByLines header (ahead_of old more) (token kind spelling line space (ahead_of new more))
 
 -- nothing has changed
 abbrev pub IsKept : Pieces → List (List ℕ) → Pieces → List (List ℕ) → Type 0
@@ -48,18 +50,19 @@ pub record IsWaiting (old new : Pieces) : Type 0 where
   pub edge_is : new.edge ≡ old.edge
   pub few : length new.cells ≤ limit_of Line
   pub same : (header : Bool) (more : List ℕ) (next : Next) → IsNext header (ahead_of new more) next → IsNext header (ahead_of old more) next
+  pub by_lines : (header : Bool) (more : List ℕ) (next : Next) → IsNextByLines header (ahead_of new more) next → IsNextByLines header (ahead_of old more) next
 
--- The line that is held is no longer than it may be, or it is too long, with whichever bytes the text
--- goes on.
-abbrev pub AnswersHeld : Bool → Pieces → List (List ℕ) → Answer → Pieces → List (List ℕ) → Type 0
-AnswersHeld true old names result' new after = (result' ≡ Ok More) × IsWaiting old new × (after ≡ names)
-AnswersHeld false old names result' new after = (result' ≡ Err (TooLarge Line (limit_of Line + 1))) × IsKept old names new after × ((more : List ℕ) → is_any_long (ahead_of old more) ≡ true)
+-- What comes next of the text, with whichever bytes it goes on, is this.
+abbrev pub ComesByLines : Bool → Pieces → Next → Type 0
+ComesByLines header old next = (more : List ℕ) → IsNextByLines header (ahead_of old more) next
 
--- No token is left on the whole lines: of a finished text this is the answer, and of another that
--- more bytes are wanted.
-abbrev pub AnswersLines : Option Edge → Answer → Pieces → List (List ℕ) → Answer → Pieces → List (List ℕ) → Type 0
-AnswersLines None finished old names result' new after = (result' ≡ finished) × IsKept old names new after
-AnswersLines (Some edge) finished old names result' new after = AnswersHeld (nat_le edge.column (limit_of Line)) old names result' new after
+-- Of the lines up to the first that is too long this comes next, and no token: then that line is
+-- refused; where there is none, of a finished text this is the answer, and of another that more bytes
+-- are wanted.
+abbrev pub AnswersLines : Bool → Bool → Option Edge → Next → Answer → Pieces → List (List ℕ) → Answer → Pieces → List (List ℕ) → Type 0
+AnswersLines header true edge next finished old names result' new after = (result' ≡ Err (TooLarge Line (limit_of Line + 1))) × IsKept old names new after × ComesByLines header old long_line
+AnswersLines header false None next finished old names result' new after = (result' ≡ finished) × IsKept old names new after × ((more : List ℕ) → IsNext header (ahead_of old more) next) × ComesByLines header old next
+AnswersLines header false (Some edge) next finished old names result' new after = (result' ≡ Ok More) × IsWaiting old new × (after ≡ names)
 
 -- a token, or the refusal of its name
 abbrev pub AnswersToken : Bool → Pieces → List (List ℕ) → PpKind → List ℕ → ℕ → Bool → Answer → Pieces → List (List ℕ) → Type 0
@@ -68,11 +71,11 @@ AnswersToken header old names kind spelling line space (Ok More) new after = ⊥
 AnswersToken header old names kind spelling line space (Ok End) new after = ⊥
 AnswersToken header old names kind spelling line space (Err refusal) new after = ((refusal ≡ OutOfMemory) ⊎ RefusesName names spelling refusal) × IsKept old names new after
 
--- Want of memory may come in place of a long line and of a token, and of nothing else.
+-- Want of memory may come in place of a token, and of nothing else.
 abbrev pub Answers : Bool → Pieces → List (List ℕ) → Next → Answer → Pieces → List (List ℕ) → Type 0
-Answers header old names ended result' new after = AnswersLines old.edge (Ok End) old names result' new after
-Answers header old names (open_comment line) result' new after = AnswersLines old.edge (Err (At OpenComment (record { file = old.file; line = line }))) old names result' new after
-Answers header old names long_line result' new after = ((result' ≡ Err (TooLarge Line (limit_of Line + 1))) ⊎ (result' ≡ Err OutOfMemory)) × IsKept old names new after × ((more : List ℕ) → IsNext header (ahead_of old more) long_line)
+Answers header old names ended result' new after = AnswersLines header (is_too_long old) old.edge ended (Ok End) old names result' new after
+Answers header old names (open_comment line) result' new after = AnswersLines header (is_too_long old) old.edge (open_comment line) (Err (At OpenComment (record { file = old.file; line = line }))) old names result' new after
+Answers header old names long_line result' new after = ⊥
 Answers header old names (token kind spelling line space rest) result' new after = AnswersToken header old names kind spelling line space result' new after
 
 -- the answer to what comes next on the whole lines ahead
@@ -83,12 +86,10 @@ IsAnswered header old names result' new after = (next : Next) × IsNext header (
 abbrev pub HasNone : Bool → Pieces → Type 0
 HasNone header p = IsNext header (lines_of p) ended ⊎ ((line : ℕ) × IsNext header (lines_of p) (open_comment line))
 
--- the text was not finished, and the line that is held is no longer than it may be
-abbrev pub MayGoOn : Option Edge → Type 0
-MayGoOn None = ⊥
-MayGoOn (Some edge) = edge.column ≤ limit_of Line
+-- the text was not finished, and no line that is known is too long
+abbrev pub MayGoOn : Pieces → Type 0
+MayGoOn p = IsOpen p.edge × (is_too_long p ≡ false)
 
 -- what a lexer does where its whole lines have no further token
-abbrev pub stop_of : Bool → ℕ → Stop
-stop_of true column = Over
-stop_of false column = if nat_le column (limit_of Line) then Wanting else Long
+abbrev pub stop_of : Bool → Bool → Stop
+stop_of finished long = if long then Long else if finished then Over else Wanting

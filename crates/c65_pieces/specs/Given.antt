@@ -1,5 +1,5 @@
 -- The bytes of a text that were given (C90 5.1.1.2, phases 1 and 2).
-use Rattle.std.specs.Prelude.{◌≡◌, ℕ, ◌+◌, ◌<◌, ◌≤◌, List, [], ◌∷◌, ◌++◌, length, take, drop, Bool, true, false, ◌==◌, ◌&&◌, ◌||◌, if◌then◌else◌, ◌⊎◌, vec_len, vec_capacity}
+use Rattle.std.specs.Prelude.{◌≡◌, ℕ, ◌+◌, ◌≤◌, List, [], ◌∷◌, ◌++◌, length, take, drop, Bool, true, false, ◌==◌, ◌&&◌, ◌||◌, not, nat_le, if◌then◌else◌, ◌⊎◌, vec_len, vec_capacity}
 use Rattle.c65_base.specs.declared.refusal.Size.TheVariants.{Line}
 use Rattle.c65_base.specs.Limits.{limit_of}
 use Rattle.c65_lex.specs.Cells.{Cell, cells, bytes, line_after, column_after}
@@ -10,6 +10,7 @@ use Rattle.c65_pieces.specs.declared.text.Pending.TheVariants.{Nothing, Return, 
 use Rattle.c65_pieces.specs.declared.text.Edge.{Edge}
 use Rattle.c65_pieces.specs.declared.text.Text.{Text}
 use Rattle.c65_pieces.specs.Settled.{as_cells}
+use Rattle.c65_pieces.specs.Lines.{is_sound}
 
 -- the bytes at the end that vanish where a line feed follows them
 abbrev pub pending_bytes : Pending → List ℕ
@@ -38,18 +39,19 @@ ends (b ∷ c ∷ bs) = ends (c ∷ bs)
 abbrev pub AreLines : List Cell → Type 0
 AreLines cs = (cs ≡ []) ⊎ (ends (bytes cs) ≡ true)
 
-abbrev pub has_line_end : List Cell → Bool
-has_line_end [] = false
-has_line_end (c ∷ cs) = (c.byte == 10) || has_line_end cs
+-- a line is too long at a byte with so many before it
+abbrev pub too_far : ℕ → ℕ → Bool
+too_far byte column = not (byte == 10) && nat_le (limit_of Line) column
 
--- The first bytes are whole lines, and the others are of one line, which has no more bytes than its
--- column says, and is too long at one of them where its column is beyond the limit.
-pub record AreSorted (settled : List Settled) (ready column : ℕ) : Type 0 where
+-- The first bytes are whole lines that are not too long. The others begin with a line that is not so:
+-- it is too long, or they are no more bytes than its column says.
+pub record AreSorted (settled : List Settled) (ready : ℕ) (long : Bool) (column : ℕ) : Type 0 where
   pub within : ready ≤ length settled
   pub lines : AreLines (as_cells (take ready settled))
-  pub held : has_line_end (as_cells (drop ready settled)) ≡ false
-  pub counted : column ≤ limit_of Line → length settled ≤ ready + column
-  pub long : limit_of Line < column → is_any_long (as_cells (drop ready settled)) ≡ true
+  pub short : is_any_long (as_cells (take ready settled)) ≡ false
+  pub held : is_sound (as_cells (drop ready settled)) ≡ false
+  pub long_is : is_any_long (as_cells (drop ready settled)) ≡ long
+  pub counted : long ≡ false → (column ≤ limit_of Line) × (length settled ≤ ready + column)
 
 -- a byte is settled
 pub record IsSettled (old : Text) (byte : ℕ) (new : Text) : Type 0 where
@@ -57,14 +59,15 @@ pub record IsSettled (old : Text) (byte : ℕ) (new : Text) : Type 0 where
   pub length_is : vec_len new.settled ≡ vec_len old.settled + 1
   pub capacity_is : vec_capacity new.settled ≡ vec_capacity old.settled
   pub edge_is : new.edge ≡ record { line = line_after byte old.edge.line; column = column_after byte old.edge.column; pending = old.edge.pending }
-  pub ready_is : new.ready ≡ (if byte == 10 then length new.settled.items else old.ready)
+  pub ready_is : new.ready ≡ (if (byte == 10) && not old.long then length new.settled.items else old.ready)
+  pub long_is : new.long ≡ old.long || too_far byte old.edge.column
 
 -- bytes are added
 pub record AreAdded (old : Text) (piece : List ℕ) (new : Text) : Type 0 where
   pub joined : (more : List ℕ) → as_cells new.settled.items ++ cells_from new.edge more ≡ as_cells old.settled.items ++ cells_from old.edge (piece ++ more)
   pub length_is : vec_len new.settled + length (pending_bytes new.edge.pending) ≤ (vec_len old.settled + length (pending_bytes old.edge.pending)) + length piece
   pub capacity_is : vec_capacity new.settled ≡ vec_capacity old.settled
-  pub sorted : AreSorted old.settled.items old.ready old.edge.column → AreSorted new.settled.items new.ready new.edge.column
+  pub sorted : AreSorted old.settled.items old.ready old.long old.edge.column → AreSorted new.settled.items new.ready new.long new.edge.column
 
 -- how many bytes are settled at the end of a text
 abbrev pub room : Edge → ℕ
@@ -81,13 +84,15 @@ pub record IsFlushed (old new : Text) : Type 0 where
   pub length_is : vec_len new.settled ≡ vec_len old.settled + length (pending_bytes old.edge.pending)
   pub capacity_is : vec_capacity new.settled ≡ vec_capacity old.settled
   pub none_if : is_nothing old.edge.pending ≡ true → new.edge.column ≡ old.edge.column
-  pub sorted : AreSorted old.settled.items old.ready old.edge.column → AreSorted new.settled.items new.ready new.edge.column
+  pub further : AreSorted old.settled.items old.ready old.long old.edge.column → old.ready ≤ new.ready
+  pub sorted : AreSorted old.settled.items old.ready old.long old.edge.column → AreSorted new.settled.items new.ready new.long new.edge.column
 
--- the text has ended, and all of it is whole lines
+-- the text has ended, and all of it is whole lines, if none is too long
 pub record IsClosed (old new : Text) : Type 0 where
   pub all : as_cells new.settled.items ≡ as_cells old.settled.items ++ cells_from old.edge []
   pub edge_is : (new.edge.column ≡ 0) × (new.edge.pending ≡ Nothing)
-  pub ready_is : new.ready ≡ length new.settled.items
+  pub ready_is : new.long ≡ false → new.ready ≡ length new.settled.items
+  pub further : old.ready ≤ new.ready
   pub length_is : vec_len new.settled ≤ vec_len old.settled + room old.edge
   pub capacity_is : vec_capacity new.settled ≡ vec_capacity old.settled
-  pub sorted : AreSorted new.settled.items new.ready new.edge.column
+  pub sorted : AreSorted new.settled.items new.ready new.long new.edge.column

@@ -1,5 +1,6 @@
 pub mod Settled
 pub mod Scanned
+pub mod Lines
 pub mod Given
 pub mod Pieces
 pub mod Answers

@@ -1,14 +1,16 @@
 -- What is left of a text that is given in pieces.
-use Rattle.std.specs.Prelude.{◌≡◌, ℕ, ◌+◌, ◌≤◌, List, [], ◌∷◌, ◌++◌, length, Bool, true, false, if◌then◌else◌, Option, Some, None, vec_len, vec_capacity}
+use Rattle.std.specs.Prelude.{◌≡◌, ℕ, ◌+◌, ◌≤◌, List, [], ◌++◌, length, Bool, true, false, Option, Some, None, vec_len, vec_capacity}
 use Rattle.c65_base.specs.declared.refusal.Size.TheVariants.{Line}
 use Rattle.c65_base.specs.Limits.{limit_of}
 use Rattle.c65_lex.specs.Cells.{Cell}
+use Rattle.c65_lex.specs.Next.{is_any_long}
 use Rattle.c65_pieces.specs.declared.text.Pending.TheVariants.{Nothing}
 use Rattle.c65_pieces.specs.declared.text.Edge.{Edge}
 use Rattle.c65_pieces.specs.declared.text.Text.{Text}
 use Rattle.c65_pieces.specs.Settled.{as_cells, ahead}
 use Rattle.c65_pieces.specs.Scanned.{opening}
-use Rattle.c65_pieces.specs.Given.{cells_from, room, has_line_end, AreSorted}
+use Rattle.c65_pieces.specs.Lines.{sound_lines}
+use Rattle.c65_pieces.specs.Given.{cells_from, room, AreSorted}
 
 -- the file's number, the line where a comment began that was not at its end yet, the cells that are
 -- known, and where the text goes on behind them, unless it was finished
@@ -40,19 +42,13 @@ text_from (Some edge) more = cells_from edge more
 abbrev pub ahead_of : Pieces → List ℕ → List Cell
 ahead_of p more = opening p.comment ++ (p.cells ++ text_from p.edge more)
 
--- up to the last line feed
-abbrev pub whole_lines : List Cell → List Cell
-whole_lines [] = []
-whole_lines (c ∷ cs) = if has_line_end (c ∷ cs) then c ∷ whole_lines cs else []
-
--- the end of a text ends its last line
-abbrev pub lines_in : Option Edge → List Cell → List Cell
-lines_in None cs = cs
-lines_in (Some edge) cs = whole_lines cs
-
--- the whole lines ahead
+-- the whole lines ahead, up to the first that is too long
 abbrev pub lines_of : Pieces → List Cell
-lines_of p = opening p.comment ++ lines_in p.edge p.cells
+lines_of p = opening p.comment ++ sound_lines p.cells
+
+-- a line that is known is too long
+abbrev pub is_too_long : Pieces → Bool
+is_too_long p = is_any_long p.cells
 
 -- these bytes are known too
 pub record KnowsMore (old : Pieces) (piece : List ℕ) (new : Pieces) : Type 0 where
@@ -79,15 +75,15 @@ abbrev pub most_held : ℕ
 most_held = 40960
 
 pub record IsHeld (text : Text) (at : ℕ) (finished : Bool) : Type 0 where
-  pub sorted : AreSorted text.settled.items text.ready text.edge.column
+  pub sorted : AreSorted text.settled.items text.ready text.long text.edge.column
   pub place : at ≤ text.ready
   pub spare : vec_len text.settled + room text.edge ≤ vec_capacity text.settled
   pub bound : vec_len text.settled + room text.edge ≤ most_held
-  pub over : finished ≡ true → text.ready ≡ length text.settled.items
+  pub over : finished ≡ true → text.long ≡ false → text.ready ≡ length text.settled.items
 
 -- a piece is added to what is left
 pub record IsExtended (old : Text) (at : ℕ) (piece : List ℕ) (new : Text) : Type 0 where
   pub joined : (more : List ℕ) → as_cells new.settled.items ++ cells_from new.edge more ≡ ahead old.settled.items at ++ cells_from old.edge (piece ++ more)
-  pub sorted : AreSorted new.settled.items new.ready new.edge.column
+  pub sorted : AreSorted new.settled.items new.ready new.long new.edge.column
   pub spare : vec_len new.settled + room new.edge ≤ vec_capacity new.settled
   pub length_is : vec_len new.settled + room new.edge ≤ (length (ahead old.settled.items at) + length piece) + 3

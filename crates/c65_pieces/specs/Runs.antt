@@ -1,7 +1,9 @@
 -- What happens to a lexer from call to call.
-use Rattle.std.specs.Prelude.{◌≡◌, ℕ, List, [], ◌∷◌, ◌++◌}
-use Rattle.c65_lex.specs.Next.{token, IsNext}
+use Rattle.std.specs.Prelude.{◌≡◌, ℕ, List, [], ◌∷◌, ◌++◌, Bool}
+use Rattle.c65_lex.specs.Cells.{Cell}
+use Rattle.c65_lex.specs.Next.{Next, token}
 use Rattle.c65_lex.specs.Text.{Lexeme, Before, after, allows_header}
+use Rattle.c65_pieces.specs.Lines.{IsNextByLines}
 use Rattle.c65_pieces.specs.Pieces.{Pieces, KnowsMore, IsFinished, ahead_of}
 use Rattle.c65_pieces.specs.Answers.{IsWaiting}
 
@@ -34,10 +36,16 @@ before_after before (finishes ∷ events) = before_after before events
 before_after before (wants ∷ events) = before_after before events
 before_after before (takes t ∷ events) = before_after (after before t) events
 
--- the calls lead from one state of a lexer to another; nothing is given once the text is finished
-abbrev pub Run : Before → Pieces → List Event → Pieces → Type 0
-Run before old [] last = last ≡ old
-Run before old (gives piece ∷ events) last = (new : Pieces) × KnowsMore old piece new × Run before new events last
-Run before old (finishes ∷ events) last = (new : Pieces) × IsFinished old new × (bytes_given events ≡ []) × Run before new events last
-Run before old (wants ∷ events) last = (new : Pieces) × IsWaiting old new × Run before new events last
-Run before old (takes t ∷ events) last = (new : Pieces) × ((more : List ℕ) → IsNext (allows_header before) (ahead_of old more) (token t.kind t.spelling t.line t.space (ahead_of new more))) × Run (after before t) new events last
+-- The calls lead from one state of a lexer to another; nothing is given once the text is finished. What
+-- comes next of a text is told at once or line by line.
+abbrev pub Run : (Bool → List Cell → Next → Type 0) → Before → Pieces → List Event → Pieces → Type 0
+Run IsComing before old [] last = last ≡ old
+Run IsComing before old (gives piece ∷ events) last = (new : Pieces) × KnowsMore old piece new × Run IsComing before new events last
+Run IsComing before old (finishes ∷ events) last = (new : Pieces) × IsFinished old new × (bytes_given events ≡ []) × Run IsComing before new events last
+Run IsComing before old (wants ∷ events) last = (new : Pieces) × IsWaiting old new × Run IsComing before new events last
+Run IsComing before old (takes t ∷ events) last = (new : Pieces) × ((more : List ℕ) → IsComing (allows_header before) (ahead_of old more) (token t.kind t.spelling t.line t.space (ahead_of new more))) × Run IsComing (after before t) new events last
+
+-- these tokens come next of a text that is read line by line, and then this
+abbrev pub AreReadByLines : Before → List Cell → List Lexeme → Next → Type 0
+AreReadByLines before start [] next = IsNextByLines (allows_header before) start next
+AreReadByLines before start (t ∷ ts) next = (rest : List Cell) × IsNextByLines (allows_header before) start (token t.kind t.spelling t.line t.space rest) × AreReadByLines (after before t) rest ts next

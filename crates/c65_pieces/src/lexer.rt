@@ -8,7 +8,6 @@ ghost use Rattle.c65_pieces.specs.Pieces.{IsExtended};
 ghost use Rattle.c65_pieces.specs.Answers.{IsNamed, stop_of};
 
 use crate::scan::{Scanned, Spelled, scan};
-use crate::settled::LONGEST_LINE;
 use crate::text::{Edge, Pending, Text, add, close};
 use c65_base::{Code, Names, Pos, Refusal, Size};
 use c65_lex::PpToken;
@@ -49,7 +48,7 @@ impl Model for PieceLexer {
 
 /// The text from a place on, and a piece behind it.
 fn extended(alloc: Global, text: &Text, at: usize, piece: &[u8]) -> Result<Text, AllocError>
-    requires sorted { AreSorted text.now.settled.items text.now.ready text.now.edge.column }
+    requires sorted { AreSorted text.now.settled.items text.now.ready text.now.long text.now.edge.column }
     requires place { at ≤ text.now.ready }
     requires few { length text.now.settled.items ≤ 40960 }
     requires short { length piece.now ≤ 4096 }
@@ -61,6 +60,7 @@ fn extended(alloc: Global, text: &Text, at: usize, piece: &[u8]) -> Result<Text,
     let mut new = Text {
         settled,
         ready: text.ready - at,
+        long: text.long,
         edge: text.edge,
     };
     add(&mut new, piece);
@@ -75,16 +75,15 @@ pub enum Stop {
     Wanting,
 }
 
-/// The line that is held has as many bytes.
-fn stopped(finished: bool, column: u16) -> Stop
-    ensures { result ≡ stop_of finished column }
+fn stopped(finished: bool, long: bool) -> Stop
+    ensures { result ≡ stop_of finished long }
 {
-    if finished {
-        Stop::Over
-    } else if column <= LONGEST_LINE {
-        Stop::Wanting
-    } else {
+    if long {
         Stop::Long
+    } else if finished {
+        Stop::Over
+    } else {
+        Stop::Wanting
     }
 }
 
@@ -119,6 +118,7 @@ impl PieceLexer {
     ghost use Rattle.c65_base.specs.declared.refusal.Refusal.TheVariants.{OutOfMemory};
     ghost use Rattle.c65_lex.specs.Next.{Next, IsNext, ended};
     ghost use Rattle.c65_pieces.specs.Pieces.{nothing_given, TakesPiece, KnowsMore, IsFinished, ahead_of, lines_of};
+    ghost use Rattle.c65_pieces.specs.Lines.{IsNextByLines};
     ghost use Rattle.c65_pieces.specs.Answers.{IsAnswered, Answers, HasNone, MayGoOn, IsKept};
     ghost use Rattle.c65_pieces.specs.declared.lexer.Lexed.TheVariants.{More, End};
 
@@ -137,6 +137,7 @@ impl PieceLexer {
             text: Text {
                 settled: Vec::new(alloc),
                 ready: 0,
+                long: false,
                 edge,
             },
             at: 0,
@@ -172,16 +173,17 @@ impl PieceLexer {
 
     /// The next token; `More` where the whole lines that were given have no further one; `End` at
     /// the end of a text that was finished. `header` allows a header name. Refuses a comment without
-    /// its end once the text was finished, a line of more than 32,767 bytes as soon as it has them,
-    /// and the 65,536th spelling, and stays then where it was.
+    /// its end once the text was finished, a line of more than 32,767 bytes as soon as it has them and
+    /// before any of its tokens, and the 65,536th spelling, and stays then where it was.
     pub fn next(&mut self, names: &mut Names, header: bool) -> Result<Lexed, Refusal>
         ensures some { IsAnswered header self.old names.old result self.new names.new }
 
         // Only one thing comes next, so this is the answer to it and to nothing else.
         ensures only { (next : Next) → IsNext header (lines_of self.old) next
             → Answers header self.old names.old next result self.new names.new }
-        ensures more { (result ≡ Ok More) ↔ (HasNone header self.old × MayGoOn self.old.edge) }
-        ensures end { (result ≡ Ok End) ↔ ((self.old.edge ≡ None) × IsNext header (ahead_of self.old []) ended) }
+        ensures more { (result ≡ Ok More) ↔ (HasNone header self.old × MayGoOn self.old) }
+        ensures end { (result ≡ Ok End) ↔ ((self.old.edge ≡ None) × IsNextByLines header (ahead_of self.old []) ended) }
+        ensures whole { (result ≡ Ok End) → IsNext header (ahead_of self.old []) ended }
         ensures kept { OnErr result (IsKept self.old names.old self.new names.new) }
         ensures room { (result ≡ Ok More) → TakesPiece self.new }
     {
@@ -193,12 +195,12 @@ impl PieceLexer {
     {
         let lines = &self.text.settled[..self.text.ready];
         match scan(self.alloc, lines, self.at, self.comment, header)? {
-            Scanned::Ended => match stopped(self.finished, self.text.edge.column) {
+            Scanned::Ended => match stopped(self.finished, self.text.long) {
                 Stop::Over => Ok(Lexed::End),
                 Stop::Long => Err(too_long()),
                 Stop::Wanting => Ok(Lexed::More),
             },
-            Scanned::Unclosed(line) => match stopped(self.finished, self.text.edge.column) {
+            Scanned::Unclosed(line) => match stopped(self.finished, self.text.long) {
                 Stop::Over => Err(Refusal::At {
                     code: Code::OpenComment,
                     pos: Pos {

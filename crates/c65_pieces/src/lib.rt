@@ -11,4 +11,4 @@ mod text;
 mod whole;
 
 pub use lexer::{Lexed, PieceLexer};
-pub use whole::anyhow_cut;
+pub use whole::{anyhow_cut, anyhow_cut_by_lines};

@@ -3,7 +3,7 @@ ghost use Rattle.std.specs.Prelude.{◌≡◌, ◌≤◌, ◌<◌, ◌+◌, [], 
 ghost use Rattle.c65_lex.specs.Cells;
 ghost use Rattle.c65_pieces.specs.declared.text.Pending.TheVariants.{Nothing, Return, Backslash, BackslashReturn};
 ghost use Rattle.c65_pieces.specs.Settled.{as_cells};
-ghost use Rattle.c65_pieces.specs.Given.{pending_bytes, room, IsBackslash, AreSorted, IsSettled, AreAdded, IsFlushed, IsClosed};
+ghost use Rattle.c65_pieces.specs.Given.{pending_bytes, too_far, room, IsBackslash, AreSorted, IsSettled, AreAdded, IsFlushed, IsClosed};
 
 use crate::settled::{LONGEST_LINE, Settled};
 
@@ -24,11 +24,15 @@ pub struct Edge {
     pub pending: Pending,
 }
 
-/// Bytes of a text, with its lines joined. The first of them, as many as are ready, are whole lines.
+/// Bytes of a text, with its lines joined. The first of them, as many as are ready, are whole lines
+/// that are not too long. Behind them stands the line that is held: one whose end was not given yet,
+/// or the first that is too long, with all that follows it.
 #[derive(Drop)]
 pub struct Text {
     pub settled: Vec<Settled>,
     pub ready: usize,
+    /// Whether the line that is held is too long.
+    pub long: bool,
     pub edge: Edge,
 }
 
@@ -54,6 +58,13 @@ fn column_after(byte: u8, column: u16) -> u16
     }
 }
 
+/// Whether a line is too long at a byte with so many before it.
+fn is_too_far(byte: u8, column: u16) -> bool
+    ensures { result ≡ too_far byte column }
+{
+    byte != b'\n' && column >= LONGEST_LINE
+}
+
 /// Takes a byte that does not vanish.
 fn settle(text: &mut Text, byte: u8)
     requires { vec_len text.old.settled < vec_capacity text.old.settled }
@@ -70,9 +81,10 @@ fn settle(text: &mut Text, byte: u8)
         column: column_after(byte, column),
         pending,
     };
-    if byte == b'\n' {
+    if byte == b'\n' && !text.long {
         text.ready = text.settled.len();
     }
+    text.long = text.long || is_too_far(byte, column);
 }
 
 /// Takes a byte where nothing is pending.
@@ -189,7 +201,7 @@ fn settle_pending(text: &mut Text)
 /// Ends the text. Its end ends its last line.
 pub fn close(text: &mut Text)
     requires room { vec_len text.old.settled + room text.old.edge ≤ vec_capacity text.old.settled }
-    requires sorted { AreSorted text.old.settled.items text.old.ready text.old.edge.column }
+    requires sorted { AreSorted text.old.settled.items text.old.ready text.old.long text.old.edge.column }
     ensures { IsClosed text.old text.new }
 {
     settle_pending(text);

@@ -5,4 +5,4 @@ use Rattle.c65_pieces.proofs.lexer.extended.Goals as goal
 
 pub returns : goal.returns
 returns c =
-    extends c.args.text.now _ c.add.new.text c.args.at c.args.piece.now c.requires.place c.requires.sorted (grind (arith, common_steps)) refl refl (grind (arith, common_steps)) (grind (arith, common_steps)) c.add.ensures
+    extends c.args.text.now _ c.add.new.text c.args.at c.args.piece.now c.requires.place c.requires.sorted (grind (arith, common_steps)) refl refl refl (grind (arith, common_steps)) (grind (arith, common_steps)) c.add.ensures

@@ -6,7 +6,7 @@ use Rattle.c65_lex.specs.Next.{ended, open_comment, long_line}
 use Rattle.c65_pieces.specs.declared.lexer.Lexed.TheVariants.{More, End}
 use Rattle.c65_pieces.specs.Pieces.{Pieces}
 use Rattle.c65_pieces.specs.Answers.{Answer, IsAnswered}
-use Rattle.c65_pieces.proofs.Answering.{through, through_token, through_memory, ended_over, ended_long, ended_wanting, open_over, open_long, open_wanting, long_answer, memory_answer, name_answer, token_answer}
+use Rattle.c65_pieces.proofs.Answering.{through, through_token, through_memory, ended_over, ended_long, ended_wanting, open_over, open_long, open_wanting, never_long, memory_answer, name_answer, token_answer}
 use Rattle.c65_pieces.proofs.lexer.PieceLexer.answer.Goals as goal
 use Rattle.c65_pieces.proofs.lexer.PieceLexer.answer.Goals.{in-Over, in-Long, in-Wanting}
 
@@ -25,7 +25,7 @@ pub returns-in-TooLong : goal.returns-in-TooLong
 returns-in-TooLong c =
     let i = c.self.inside in
     let n = through i.file i.comment i.text i.at i.finished c.self.invariant c.deref.result.now c.deref.ensures.value c.args.header long_line (rw c.in-TooLong.is at c.in_ok-scan.ensures.next) in
-    kept c.args.header c.args.names.now c.args.names.now _ _ _ _ (ap Err (sym c.too_long-in-TooLong.ensures)) c.self.view_is (long_answer i.file i.comment i.text i.at i.finished c.self.invariant c.args.header c.args.names.now n)
+    absurd (never_long i.file i.comment i.text i.at i.finished c.self.invariant c.args.header n)
 
 pub returns-in-Over-stopped : goal.returns-in-Over-stopped
 returns-in-Over-stopped c =
