@@ -1,6 +1,6 @@
 -- Comparisons with a right side that is read where it lies, and branches by them (C90 6.3.8, 6.3.9). In each form the lines go to
 -- a label where the left side has the relation to the right one, and else on.
-use Rattle.std.specs.Prelude.{ℕ, ◌+◌, ◌==◌, ◌&&◌, Bool, false, if◌then◌else◌, Option, Some, None, List, [], ◌∷◌, ◌++◌}
+use Rattle.std.specs.Prelude.{ℕ, ◌+◌, ◌==◌, ◌&&◌, bit_xor, Bool, true, false, if◌then◌else◌, Option, Some, None, List, [], ◌∷◌, ◌++◌}
 use Rattle.c65_base.specs.declared.operators.BinaryOp.{BinaryOp}
 use Rattle.c65_base.specs.declared.operators.BinaryOp.TheVariants as ops
 use Rattle.c65_mach.specs.declared.rows.Op.{Op}
@@ -60,6 +60,31 @@ abbrev pub difference_code : Relation → Sides → List Line
 difference_code r (Word low high) = lowest_code r low ++ (implied Txa ∷ op_of Sbc high)
 difference_code r (Long first second third fourth) = lowest_code r first ++ (implied Txa ∷ (op_of Sbc second ++ upper_code third fourth))
 
+-- whether the highest byte of the right side is a number: then the signs of both sides are turned, and the carry tells of signed
+-- values too
+abbrev pub is_number : OperandByte → Bool
+is_number (Number n) = true
+is_number byte = false
+
+abbrev pub is_turned : Bool → Sides → Bool
+is_turned is_signed (Word low high) = is_signed && is_number high
+is_turned is_signed (Long first second third fourth) = is_signed && is_number fourth
+
+abbrev pub turned : OperandByte → OperandByte
+turned (Number n) = Number (bit_xor n 128)
+turned byte = byte
+
+abbrev pub turned_code : OperandByte → List Line
+turned_code byte = value Eor 128 ∷ op_of Sbc (turned byte)
+
+abbrev pub turned_upper_code : OperandByte → OperandByte → List Line
+turned_upper_code third fourth = zero_page Lda sreg ∷ (op_of Sbc third ++ (zero_page Lda (sreg + 1) ∷ turned_code fourth))
+
+-- the difference of both sides, each with its sign turned
+abbrev pub turned_difference_code : Relation → Sides → List Line
+turned_difference_code r (Word low high) = lowest_code r low ++ (implied Txa ∷ turned_code high)
+turned_difference_code r (Long first second third fourth) = lowest_code r first ++ (implied Txa ∷ (op_of Sbc second ++ turned_upper_code third fourth))
+
 -- the branch by the carry, of values without sign
 abbrev pub by_carry : Relation → Op
 by_carry Less = Bcc
@@ -111,6 +136,7 @@ highest_code (Long first second third fourth) = zero_page Lda (sreg + 1) ∷ []
 abbrev pub ordered_code : Relation → Bool → Sides → ℕ → ℕ → List Line
 ordered_code r is_signed sides fresh to =
     if is_sign_test r is_signed sides then highest_code sides ++ (Label fresh ∷ branch (by_sign r) to ∷ [])
+    else if is_turned is_signed sides then turned_difference_code r sides ++ order_code r false fresh to
     else difference_code r sides ++ order_code r is_signed fresh to
 
 -- AX or EAX with a word or a long; fresh is placed once

@@ -1,7 +1,7 @@
 // Comparisons with a side that is read where it lies (C90 6.3.8, 6.3.9).
 ghost use Rattle.std.specs.Prelude.{◌≡◌, OnOk, OnErr};
 ghost use Rattle.c65_genwide.specs.Lines.{with_lines, Keeps};
-ghost use Rattle.c65_gendirect.specs.Compare.{lowest_code, upper_code, difference_code, by_carry, by_sign, order_code, is_zero_byte, are_zero, is_sign_test, highest_code, ordered_code, second_code, same_code, compare_code, compare_byte_code};
+ghost use Rattle.c65_gendirect.specs.Compare.{lowest_code, upper_code, difference_code, by_carry, by_sign, is_turned, turned, turned_code, turned_upper_code, turned_difference_code, order_code, is_zero_byte, are_zero, is_sign_test, highest_code, ordered_code, second_code, same_code, compare_code, compare_byte_code};
 
 use crate::bytes::{OperandByte, put_op, takes_y};
 use crate::relation::Relation;
@@ -82,6 +82,73 @@ fn by_sign(relation: Relation) -> Op
     match relation {
         Relation::Less | Relation::NotGreater => Bmi,
         _ => Bpl,
+    }
+}
+
+// Whether the highest byte of the right side is a number: then the signs of both sides are turned, and the carry
+// tells of signed values too.
+fn is_turned(is_signed: bool, sides: Sides) -> bool
+    ensures { result ≡ is_turned is_signed sides }
+{
+    let highest = match sides {
+        Sides::Word(_, high) => high,
+        Sides::Long(_, _, _, fourth) => fourth,
+    };
+    is_signed && matches!(highest, OperandByte::Number(_))
+}
+
+fn turned(byte: OperandByte) -> OperandByte
+    ensures { result ≡ turned byte }
+{
+    match byte {
+        OperandByte::Number(number) => OperandByte::Number(number ^ 128),
+        _ => byte,
+    }
+}
+
+fn put_turned(byte: OperandByte, draft: &mut Draft) -> Result<(), AllocError>
+    ensures lines { OnOk result (draft.new ≡ with_lines draft.old (turned_code byte)) }
+    ensures kept { OnErr result (Keeps draft.old draft.new) }
+{
+    put(draft, &[Do(Eor, Immediate, Byte(128))])?;
+    put_op(Sbc, turned(byte), draft)
+}
+
+fn put_turned_upper(
+    third: OperandByte,
+    fourth: OperandByte,
+    draft: &mut Draft,
+) -> Result<(), AllocError>
+    ensures lines { OnOk result (draft.new ≡ with_lines draft.old (turned_upper_code third fourth)) }
+    ensures kept { OnErr result (Keeps draft.old draft.new) }
+{
+    put(draft, &[Do(Lda, ZeroPage, Zero(SREG))])?;
+    put_op(Sbc, third, draft)?;
+    put(draft, &[Do(Lda, ZeroPage, Zero(SREG + 1))])?;
+    put_turned(fourth, draft)
+}
+
+// The carry is that of the difference of both sides, each with its sign turned.
+fn put_turned_difference(
+    relation: Relation,
+    sides: Sides,
+    draft: &mut Draft,
+) -> Result<(), AllocError>
+    ensures lines { OnOk result (draft.new ≡ with_lines draft.old (turned_difference_code relation sides)) }
+    ensures kept { OnErr result (Keeps draft.old draft.new) }
+{
+    match sides {
+        Sides::Word(low, high) => {
+            put_lowest(relation, low, draft)?;
+            put(draft, &[Do(Txa, Implied, Nothing)])?;
+            put_turned(high, draft)
+        }
+        Sides::Long(first, second, third, fourth) => {
+            put_lowest(relation, first, draft)?;
+            put(draft, &[Do(Txa, Implied, Nothing)])?;
+            put_op(Sbc, second, draft)?;
+            put_turned_upper(third, fourth, draft)
+        }
     }
 }
 
@@ -172,6 +239,9 @@ fn put_ordered(
             draft,
             &[Label(fresh), Do(by_sign(relation), Relative, To(to))],
         )
+    } else if is_turned(is_signed, sides) {
+        put_turned_difference(relation, sides, draft)?;
+        put_order(relation, false, fresh, to, draft)
     } else {
         put_difference(relation, sides, draft)?;
         put_order(relation, is_signed, fresh, to, draft)

@@ -15,7 +15,7 @@ use Rattle.c65_genload.specs.Words.{sreg, implied, zero_page}
 use Rattle.c65_genload.specs.Numbers.{first, second, third, fourth, mask_code, scale_code}
 use Rattle.c65_genshift.specs.declared.quick.Quick.{Quick}
 use Rattle.c65_genshift.specs.declared.quick.Quick.TheVariants.{Shift, Mask}
-use Rattle.c65_genshift.specs.Shifts.{calls_code, left_byte_code, labelled, shift_code, is_short}
+use Rattle.c65_genshift.specs.Shifts.{calls_code, left_bits_code, left_byte_code, labelled, shift_code, is_short}
 
 -- the k below a bound with 2 to the k the number
 abbrev pub power_below : ℕ → ℕ → Option ℕ
@@ -79,7 +79,7 @@ abbrev pub quick_code : IntType → Quick → ℕ → List Line
 quick_code kind quick label = quick_lines (width_of kind) quick label ++ narrow_code kind
 
 abbrev pub elements_by : ℕ → Option ℕ → List Line
-elements_by size (Some k) = if nat_lt k 8 then calls_code tos.Shl Ax k else (if nat_lt k 16 then left_byte_code (k - 8) else scale_code size)
+elements_by size (Some k) = if nat_lt k 4 then calls_code tos.Shl Ax k else if nat_lt k 8 then left_bits_code k else (if nat_lt k 16 then left_byte_code (k - 8) else scale_code size)
 elements_by size None = scale_code size
 
 -- a number of elements of so many bytes becomes one of bytes

@@ -1,6 +1,6 @@
 -- The primary register shifted by a number of bits that is known (C90 6.3.7). Shifts to the left bring in zeros, shifts to the
 -- right zeros or the sign: Shl, Shr and Asr.
-use Rattle.std.specs.Prelude.{ℕ, ◌+◌, ◌-◌, ◌%◌, nat_lt, nat_le, Bool, false, ◌&&◌, ◌||◌, if◌then◌else◌, List, [], ◌∷◌, ◌++◌, replicate}
+use Rattle.std.specs.Prelude.{ℕ, zero, suc, ◌+◌, ◌-◌, ◌%◌, nat_lt, nat_le, Bool, false, ◌&&◌, ◌||◌, if◌then◌else◌, List, [], ◌∷◌, ◌++◌, replicate}
 use Rattle.c65_mach.specs.declared.rows.Op.TheVariants.{Asl, Bne, Dey, Lda, Ldx, Ldy, Lsr, Rol, Ror, Sta, Stx, Sty, Tax, Txa}
 use Rattle.c65_code.specs.declared.line.Line.{Line}
 use Rattle.c65_code.specs.declared.line.Line.TheVariants.{Label}
@@ -30,6 +30,15 @@ turns_code turn n label = zero_page Stx tmp1 ∷ value Ldy n ∷ Label label ∷
 
 abbrev pub left_turn : List Line
 left_turn = shift_a Asl ∷ zero_page Rol tmp1 ∷ []
+
+-- n turns, one behind the other
+abbrev pub left_turns : ℕ → List Line
+left_turns zero = []
+left_turns (suc n) = left_turn ++ left_turns n
+
+-- AX bit by bit without a label
+abbrev pub left_bits_code : ℕ → List Line
+left_bits_code n = zero_page Stx tmp1 ∷ (left_turns n ++ zero_page Ldx tmp1 ∷ [])
 
 abbrev pub right_turn : List Line
 right_turn = zero_page Lsr tmp1 ∷ shift_a Ror ∷ []

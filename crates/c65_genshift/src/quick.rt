@@ -4,7 +4,7 @@ ghost use Rattle.c65_genwide.specs.Lines.{with_lines, Keeps};
 ghost use Rattle.c65_genshift.specs.Quick.{power_below, power_of, shift_if, scaled_if, rest_if, quick_by, quick_of, quick_lines, quick_code, elements_code};
 
 use crate::masks::mask;
-use crate::shifts::{is_short, place, put_calls, put_left_byte, shift};
+use crate::shifts::{is_short, place, put_calls, put_left_bits, put_left_byte, shift};
 use c65_base::BinaryOp;
 use c65_code::{Draft, TosOp, Width};
 use c65_genload::scale;
@@ -108,7 +108,8 @@ pub fn put_elements(size: u32, draft: &mut Draft) -> Result<(), AllocError>
     ensures kept { OnErr result (Keeps draft.old draft.new) }
 {
     match power_of(size) {
-        Some(exponent) if exponent < 8 => put_calls(TosOp::Shl, Width::Ax, exponent, draft),
+        Some(exponent) if exponent < 4 => put_calls(TosOp::Shl, Width::Ax, exponent, draft),
+        Some(exponent) if exponent < 8 => put_left_bits(exponent, draft),
         Some(exponent) if exponent < 16 => put_left_byte(exponent - 8, draft),
         _ => scale(size, draft),
     }

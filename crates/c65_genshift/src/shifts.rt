@@ -2,7 +2,7 @@
 ghost use Rattle.std.specs.Prelude.{◌≡◌, ◌+◌, ◌<◌, ◌∷◌, [], OnOk, OnErr};
 ghost use Rattle.c65_code.specs.declared.line.Line.TheVariants as labels;
 ghost use Rattle.c65_genwide.specs.Lines.{with_lines, Keeps};
-ghost use Rattle.c65_genshift.specs.Shifts.{one_of, calls_code, turns_code, left_turn, right_turn, left_byte_code, right_byte_code, left_one_code, left_two_code, left_three_code, right_one_code, right_two_code, right_three_code, left_word_code, right_word_code, left_long_code, right_long_code, shift_code, is_short_long, is_short};
+ghost use Rattle.c65_genshift.specs.Shifts.{one_of, calls_code, turns_code, left_turn, right_turn, left_bits_code, left_byte_code, right_byte_code, left_one_code, left_two_code, left_three_code, right_one_code, right_two_code, right_three_code, left_word_code, right_word_code, left_long_code, right_long_code, shift_code, is_short_long, is_short};
 
 use crate::zero_page::{SREG, TMP1};
 use c65_code::Line::{Call, Do, Label};
@@ -69,6 +69,26 @@ fn put_right_turns(count: u8, label: u32, draft: &mut Draft) -> Result<(), Alloc
             Do(Ldx, ZeroPage, Zero(TMP1)),
         ],
     )
+}
+
+fn put_left_turn(draft: &mut Draft) -> Result<(), AllocError>
+    ensures lines { OnOk result (draft.new ≡ with_lines draft.old left_turn) }
+    ensures kept { OnErr result (Keeps draft.old draft.new) }
+{
+    put(draft, &[shift_a(Asl), Do(Rol, ZeroPage, Zero(TMP1))])
+}
+
+// AX bit by bit, where there is no label.
+#[tactic(auto, using(crate::proofs::Turns::turn_grows))]
+pub fn put_left_bits(count: u32, draft: &mut Draft) -> Result<(), AllocError>
+    ensures lines { OnOk result (draft.new ≡ with_lines draft.old (left_bits_code count)) }
+    ensures kept { OnErr result (Keeps draft.old draft.new) }
+{
+    put(draft, &[Do(Stx, ZeroPage, Zero(TMP1))])?;
+    for _round in 0..count {
+        put_left_turn(draft)?;
+    }
+    put(draft, &[Do(Ldx, ZeroPage, Zero(TMP1))])
 }
 
 // AX by eight bits and a count more.
