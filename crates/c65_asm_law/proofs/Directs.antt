@@ -2,6 +2,7 @@
 use Rattle.std.proofs.Common.{◌≡◌, ℕ, zero, suc, ◌+◌, ◌-◌, ◌%◌, ◌<◌, ◌^◌, ◌==◌, Bool, true, false, Option, None, Some, List, [], ◌∷◌, ◌++◌, refl, arith, rules}
 use Rattle.std.specs.Prelude.{if◌then◌else◌, nat_lt, ◌&&◌, replicate}
 use Rattle.std.proofs.lemmas.Bool.{ltb-true}
+use Rattle.std.proofs.lemmas.Nat.{xor_of_8}
 use Rattle.c65_base.specs.declared.operators.BinaryOp.{BinaryOp}
 use Rattle.c65_base.specs.declared.operators.BinaryOp.TheVariants as ops
 use Rattle.c65_ints.specs.declared.types.IntType.{IntType}
@@ -32,11 +33,11 @@ use Rattle.c65_gendirect.specs.Through.{read_bytes_code, point_code, byte_throug
 use Rattle.c65_gendirect.specs.declared.relation.Relation.TheVariants as relations
 use Rattle.c65_gendirect.specs.Bytes.{op_of, takes_y, aside, back, number_byte, place_byte, byte_above, byte_of, converted}
 use Rattle.c65_gendirect.specs.Words.{instruction, carry_code, first_byte_code, both_bytes_code, onward_code, end_label, is_and, is_number, word_code, add_number_code, taken_from_code, long_mask_code}
-use Rattle.c65_gendirect.specs.Compare.{lowest_code, difference_code, by_sign, order_code, second_code, same_code, is_sign_test, highest_code, ordered_code, compare_code, compare_byte_code}
+use Rattle.c65_gendirect.specs.Compare.{lowest_code, difference_code, is_turned, turned, turned_code, turned_upper_code, turned_difference_code, by_sign, order_code, second_code, same_code, is_sign_test, highest_code, ordered_code, compare_code, compare_byte_code}
 use Rattle.c65_gendirect.specs.Tests.{or_code, all_zero_code, zero_test_code, truth_code}
 use Rattle.c65_genshift.specs.declared.quick.Quick.{Quick}
 use Rattle.c65_genshift.specs.declared.quick.Quick.TheVariants.{Shift, Mask}
-use Rattle.c65_genshift.specs.Shifts.{calls_code, turns_code, left_turn, right_turn, left_byte_code, right_byte_code, left_one_code, left_two_code, left_three_code, right_one_code, right_two_code, right_three_code, labelled, left_word_code, right_word_code, left_long_code, right_long_code, shift_code}
+use Rattle.c65_genshift.specs.Shifts.{calls_code, turns_code, left_turn, left_turns, left_bits_code, right_turn, left_byte_code, right_byte_code, left_one_code, left_two_code, left_three_code, right_one_code, right_two_code, right_three_code, labelled, left_word_code, right_word_code, left_long_code, right_long_code, shift_code}
 use Rattle.c65_genshift.specs.Quick.{power_of, mask_word_code, mask_long_code, mask_by_width, quick_lines, quick_code, elements_by, elements_code}
 use Rattle.c65_mach.specs.declared.rows.Op.TheVariants.{Adc, Asl, Bne, Cmp, Cpx, Dey, Lda, Ldx, Ldy, Lsr, Ora, Pla, Sbc, Sec, Sta, Stx, Sty, Tax, Txa}
 use Rattle.c65_genwide.specs.Lines.{value}
@@ -233,6 +234,20 @@ difference_well n r (Long d0 d1 d2 d3) h =
     let third_byte : AllWell n (zero_page Lda sreg ∷ (op_of Sbc d2 ++ (zero_page Lda (sreg + 1) ∷ op_of Sbc d3))) = well_more n _ _ (tt, omega arith) (well_append n (op_of Sbc d2) _ (op_well n Sbc d2 h.1.1.0) last) in
     well_append n (lowest_code r d0) _ (lowest_well n r d0 h.0) (well_more n _ _ (tt, tt) (well_append n (op_of Sbc d1) _ (op_well n Sbc d1 h.1.0) third_byte))
 
+turned_well : (n : ℕ) (byte : OperandByte) → WellByte n byte → WellByte n (turned byte)
+turned_well n (bytes.Number v) h = xor_of_8 v 128 h (omega arith)
+turned_well n _ h = h
+
+turned_code_well : (n : ℕ) (byte : OperandByte) → WellByte n byte → AllWell n (turned_code byte)
+turned_code_well n byte h = well_more n _ _ (tt, omega arith) (op_well n Sbc (turned byte) (turned_well n byte h))
+
+turned_difference_well : (n : ℕ) (r : Relation) (s : Sides) → WellSides n s → AllWell n (turned_difference_code r s)
+turned_difference_well n r (Word low high) h = well_append n (lowest_code r low) _ (lowest_well n r low h.0) (well_more n _ _ (tt, tt) (turned_code_well n high h.1))
+turned_difference_well n r (Long d0 d1 d2 d3) h =
+    let last : AllWell n (zero_page Lda (sreg + 1) ∷ turned_code d3) = well_more n _ _ (tt, omega arith) (turned_code_well n d3 h.1.1.1) in
+    let upper : AllWell n (turned_upper_code d2 d3) = well_more n _ _ (tt, omega arith) (well_append n (op_of Sbc d2) _ (op_well n Sbc d2 h.1.1.0) last) in
+    well_append n (lowest_code r d0) _ (lowest_well n r d0 h.0) (well_more n _ _ (tt, tt) (well_append n (op_of Sbc d1) _ (op_well n Sbc d1 h.1.0) upper))
+
 order_well : (n : ℕ) (r : Relation) (signed : Bool) (l to : ℕ) → l < 2 ^ 32 → to < 2 ^ 32 → AllWell n (order_code r signed l to)
 order_well n r signed l to room low = well_if n signed _ _ (record { all = ((tt, room), ((tt, omega arith), (room, ((tt, low), tt)))) }) (record { all = (room, ((tt, low), tt)) })
 
@@ -257,7 +272,8 @@ highest_well n (Long d0 d1 d2 d3) = record { all = search rules }
 ordered_well : (n : ℕ) (r : Relation) (signed : Bool) (s : Sides) (l to : ℕ) → WellSides n s → l < 2 ^ 32 → to < 2 ^ 32 → AllWell n (ordered_code r signed s l to)
 ordered_well n r signed s l to h room low =
     well_if n (is_sign_test r signed s) (highest_code s ++ (Label l ∷ branch (by_sign r) to ∷ [])) _ (well_append n (highest_code s) _ (highest_well n s) (record { all = (room, ((tt, low), tt)) }))
-    (well_append n (difference_code r s) _ (difference_well n r s h) (order_well n r signed l to room low))
+    (well_if n (is_turned signed s) (turned_difference_code r s ++ order_code r false l to) _ (well_append n (turned_difference_code r s) _ (turned_difference_well n r s h) (order_well n r false l to room low))
+    (well_append n (difference_code r s) _ (difference_well n r s h) (order_well n r signed l to room low)))
 
 pub compare_well : (n : ℕ) (r : Relation) (signed : Bool) (s : Sides) (l to : ℕ) → WellSides n s → l < 2 ^ 32 → to < 2 ^ 32 → AllWell n (compare_code r signed s l to)
 compare_well n relations.Equal signed s l to h room low = well_append n (same_code s l) _ (same_well n s l h room) (end_same n _ l to room low)
@@ -369,8 +385,16 @@ quick_lines_well n w (Mask m) l room = labelled_well n l _ room (mask_width_well
 pub quick_well : (n : ℕ) (kind : IntType) (q : Quick) (l : ℕ) → l < 2 ^ 32 → AllWell n (quick_code kind q l)
 quick_well n kind q l room = well_append n (quick_lines (width_of kind) q l) _ (quick_lines_well n (width_of kind) q l room) (narrow_well n kind)
 
+left_turns_well : (n m : ℕ) → AllWell n (left_turns m)
+left_turns_well n zero = well_none n
+left_turns_well n (suc m) = well_append n left_turn _ (record { all = search rules }) (left_turns_well n m)
+
+left_bits_well : (n m : ℕ) → AllWell n (left_bits_code m)
+left_bits_well n m = well_more n _ _ (tt, tmp_low) (well_append n (left_turns m) _ (left_turns_well n m) (record { all = search rules }))
+
 elements_by_well : (n size : ℕ) (k : Option ℕ) → AllWell n (elements_by size k)
-elements_by_well n size (Some k) = well_if n (nat_lt k 8) _ _ (calls_well n tos.Shl Ax k) (well_if n (nat_lt k 16) _ _ (left_byte_well n (k - 8)) (scale_well n size))
+elements_by_well n size (Some k) =
+    well_if n (nat_lt k 4) _ _ (calls_well n tos.Shl Ax k) (well_if n (nat_lt k 8) _ _ (left_bits_well n k) (well_if n (nat_lt k 16) _ _ (left_byte_well n (k - 8)) (scale_well n size)))
 elements_by_well n size None = scale_well n size
 
 pub elements_well : (n size : ℕ) → AllWell n (elements_code size)

@@ -20,7 +20,7 @@ use Rattle.c65_gendirect.specs.declared.compare.Sides.TheVariants.{Word, Long}
 use Rattle.c65_gendirect.specs.declared.relation.Relation.{Relation}
 use Rattle.c65_gendirect.specs.declared.relation.Relation.TheVariants.{Less, NotLess, Greater, NotGreater, Equal, Unequal}
 use Rattle.c65_gendirect.specs.Bytes.{op_of, aside, back}
-use Rattle.c65_gendirect.specs.Compare.{lowest_code, difference_code, by_carry, by_sign, order_code, second_code, same_code, is_sign_test, highest_code, ordered_code, compare_code, compare_byte_code}
+use Rattle.c65_gendirect.specs.Compare.{lowest_code, difference_code, is_turned, turned, turned_code, turned_difference_code, by_carry, by_sign, order_code, second_code, same_code, is_sign_test, highest_code, ordered_code, compare_code, compare_byte_code}
 use Rattle.c65_gendirect.specs.Pointed.{pointer_code, pointed_sum_code}
 use Rattle.c65_gendirect.specs.Tests.{or_code, all_zero_code, zero_test_code, truth_code}
 use Rattle.c65_gendirect.specs.Words.{instruction, carry_code, first_byte_code, both_bytes_code, onward_code, end_label, is_and, is_number, word_code, sum_code, add_number_code, taken_from_code, long_mask_code}
@@ -211,6 +211,21 @@ difference_quiet {ok = ok} r (Long d0 d1 d2 d3) =
     let fourth : Quiet ok nowhere 2 (zero_page Lda (sreg + 1) ∷ []) = quiet_piece (record { plain = refl; fit = refl; size = omega arith }) (λ v. record { to = λ calls. refl }) in
     quiet_as (λ l. refl) (quiet_then (lowest_quiet r d0) (quiet_then txa (quiet_then (byte_quiet Sbc d1 reads_sbc) (quiet_then third (quiet_then (byte_quiet Sbc d2 reads_sbc) (quiet_then fourth (byte_quiet Sbc d3 reads_sbc)))))))
 
+turned_code_quiet : {ok : ℕ → Bool} (d : OperandByte) → Quiet ok nowhere 6 (turned_code d)
+turned_code_quiet {ok = ok} d =
+    let sign : Quiet ok nowhere 2 (value Eor 128 ∷ []) = quiet_piece (record { plain = refl; fit = refl; size = omega arith }) (λ v. record { to = λ calls. refl }) in
+    quiet_as (λ l. refl) (quiet_then sign (byte_quiet Sbc (turned d) reads_sbc))
+
+turned_difference_quiet : {ok : ℕ → Bool} (r : Relation) (sides : Sides) → Quiet ok nowhere 24 (turned_difference_code r sides)
+turned_difference_quiet {ok = ok} r (Word low high) =
+    let txa : Quiet ok nowhere 1 (implied Txa ∷ []) = quiet_piece (record { plain = refl; fit = refl; size = omega arith }) (λ v. record { to = λ calls. refl }) in
+    quiet_wider (quiet_as (λ l. refl) (quiet_then (lowest_quiet r low) (quiet_then txa (turned_code_quiet high)))) (omega arith)
+turned_difference_quiet {ok = ok} r (Long d0 d1 d2 d3) =
+    let txa : Quiet ok nowhere 1 (implied Txa ∷ []) = quiet_piece (record { plain = refl; fit = refl; size = omega arith }) (λ v. record { to = λ calls. refl }) in
+    let third : Quiet ok nowhere 2 (zero_page Lda sreg ∷ []) = quiet_piece (record { plain = refl; fit = refl; size = omega arith }) (λ v. record { to = λ calls. refl }) in
+    let fourth : Quiet ok nowhere 2 (zero_page Lda (sreg + 1) ∷ []) = quiet_piece (record { plain = refl; fit = refl; size = omega arith }) (λ v. record { to = λ calls. refl }) in
+    quiet_as (λ l. refl) (quiet_then (lowest_quiet r d0) (quiet_then txa (quiet_then (byte_quiet Sbc d1 reads_sbc) (quiet_then third (quiet_then (byte_quiet Sbc d2 reads_sbc) (quiet_then fourth (turned_code_quiet d3)))))))
+
 carry_fits : (r : Relation) → is_early (Do (by_carry r) Relative (To 0)) ≡ true
 carry_fits Less = refl
 carry_fits NotLess = refl
@@ -256,7 +271,9 @@ highest_quiet (Long d0 d1 d2 d3) = quiet_piece (record { plain = refl; fit = ref
 ordered_quiet : {ok : ℕ → Bool} (r : Relation) (is_signed : Bool) (sides : Sides) (fresh to : ℕ) → ok fresh ≡ true → ok to ≡ true → Quiet ok (once_at fresh) 46 (ordered_code r is_signed sides fresh to)
 ordered_quiet r is_signed sides fresh to own other = quiet_if (is_sign_test r is_signed sides)
     (quiet_wider (quiet_as (λ l. omega arith) (quiet_then (highest_quiet sides) (quiet_then (quiet_label fresh) (quiet_branch (by_sign r) to (sign_fits r) other)))) (omega arith))
-    (quiet_wider (quiet_as (λ l. omega arith) (quiet_then (difference_quiet r sides) (order_quiet r is_signed fresh to own other))) (omega arith))
+    (quiet_if (is_turned is_signed sides)
+    (quiet_wider (quiet_as (λ l. omega arith) (quiet_then (turned_difference_quiet r sides) (order_quiet r false fresh to own other))) (omega arith))
+    (quiet_wider (quiet_as (λ l. omega arith) (quiet_then (difference_quiet r sides) (order_quiet r is_signed fresh to own other))) (omega arith)))
 
 pub compare_quiet : {ok : ℕ → Bool} (r : Relation) (is_signed : Bool) (sides : Sides) (fresh to : ℕ) → ok fresh ≡ true → ok to ≡ true → Quiet ok (once_at fresh) 46 (compare_code r is_signed sides fresh to)
 compare_quiet Equal is_signed sides fresh to own other = quiet_wider (quiet_as (λ l. omega arith) (quiet_then (same_quiet sides fresh own) (quiet_then (quiet_branch Beq to refl other) (quiet_label fresh)))) (omega arith)

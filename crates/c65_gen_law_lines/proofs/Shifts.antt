@@ -18,7 +18,7 @@ use Rattle.c65_genload.specs.Words.{sreg, tmp1, implied, zero_page, shift_a}
 use Rattle.c65_genload.specs.Numbers.{first, second, mask_code}
 use Rattle.c65_genshift.specs.declared.quick.Quick.{Quick}
 use Rattle.c65_genshift.specs.declared.quick.Quick.TheVariants.{Shift, Mask}
-use Rattle.c65_genshift.specs.Shifts.{one_of, calls_code, turns_code, left_turn, right_turn, left_byte_code, right_byte_code, left_one_code, left_two_code, right_one_code, right_two_code, labelled, left_word_code, right_word_code, left_long_code, right_long_code, shift_code, is_short_long, is_short}
+use Rattle.c65_genshift.specs.Shifts.{one_of, calls_code, turns_code, left_turn, left_turns, left_bits_code, right_turn, left_byte_code, right_byte_code, left_one_code, left_two_code, right_one_code, right_two_code, labelled, left_word_code, right_word_code, left_long_code, right_long_code, shift_code, is_short_long, is_short}
 use Rattle.c65_genshift.specs.Quick.{power_of, scaled_if, rest_if, quick_by, quick_of, mask_word_code, mask_high_code, mask_by_width, quick_lines, quick_code, elements_by, elements_code}
 use Rattle.c65_gen_law_lines.proofs.Made.{nowhere, once_at}
 use Rattle.c65_gen_law_lines.proofs.Pieces.{narrow_piece, scale_piece}
@@ -184,9 +184,22 @@ quick_quiet kind q label passes h = quiet_as (λ l. omega arith) (quiet_then (qu
 
 -- ---- elements
 
+left_turns_quiet : {ok : ℕ → Bool} (n : ℕ) → Quiet ok nowhere (n * 3) (left_turns n)
+left_turns_quiet zero = quiet_none
+left_turns_quiet {ok = ok} (suc n) =
+    let turn : Quiet ok nowhere 3 left_turn = quiet_piece (record { plain = refl; fit = refl; size = omega arith }) (λ v. record { to = λ calls. refl }) in
+    quiet_wider (quiet_as (λ l. refl) (quiet_then turn (left_turns_quiet n))) (omega arith)
+
+left_bits_quiet : {ok : ℕ → Bool} (n : ℕ) → n < 8 → Quiet ok nowhere 25 (left_bits_code n)
+left_bits_quiet {ok = ok} n few =
+    let away : Quiet ok nowhere 2 (zero_page Stx tmp1 ∷ []) = quiet_piece (record { plain = refl; fit = refl; size = omega arith }) (λ v. record { to = λ calls. refl }) in
+    let high : Quiet ok nowhere 2 (zero_page Ldx tmp1 ∷ []) = quiet_piece (record { plain = refl; fit = refl; size = omega arith }) (λ v. record { to = λ calls. refl }) in
+    quiet_wider (quiet_as (λ l. refl) (quiet_then away (quiet_then (left_turns_quiet n) high))) (omega (arith, few))
+
 elements_by_quiet : {ok : ℕ → Bool} (size : ℕ) (k : Option ℕ) → Quiet ok nowhere 91 (elements_by size k)
-elements_by_quiet size (Some k) = quiet_below k 8 (λ lt. quiet_wider (calls_quiet tos.Shl Ax k) (omega (arith, lt)))
-    (λ a. quiet_below k 16 (λ lt. quiet_wider (left_byte_quiet (k - 8) (omega (arith, lt, a))) (omega arith)) (λ b. quiet_wider (quiet_piece (scale_piece size) (scale_still size)) (omega arith)))
+elements_by_quiet size (Some k) = quiet_below k 4 (λ lt. quiet_wider (calls_quiet tos.Shl Ax k) (omega (arith, lt)))
+    (λ few. quiet_below k 8 (λ lt. quiet_wider (left_bits_quiet k lt) (omega arith))
+    (λ a. quiet_below k 16 (λ lt. quiet_wider (left_byte_quiet (k - 8) (omega (arith, lt, a))) (omega arith)) (λ b. quiet_wider (quiet_piece (scale_piece size) (scale_still size)) (omega arith))))
 elements_by_quiet size None = quiet_wider (quiet_piece (scale_piece size) (scale_still size)) (omega arith)
 
 pub elements_quiet : {ok : ℕ → Bool} (size : ℕ) → Quiet ok nowhere 91 (elements_code size)

@@ -88,7 +88,7 @@ cases_fit w at l [] = refl
 cases_fit w at l (z ∷ zs) = all_append is_early (case_code w z at l) _ (all_append is_early (test_code w (bits_of z) l at) (Label l ∷ []) (test_fit w (bits_of z) l at) refl) (cases_fit w ((at + 1) % 4294967296) (l + 1) zs)
 
 -- the labels of cases pass a test
-abbrev CasesPass : ℕ → ℕ → (ℕ → Bool) → Type 0
+abbrev pub CasesPass : ℕ → ℕ → (ℕ → Bool) → Type 0
 CasesPass l n ok = (x : ℕ) → 1 ≤ laid l n x → ok x ≡ true
 
 cases_lead : (ok : ℕ → Bool) (w : Width) (at l : ℕ) (zs : List ℤ) → CasesPass at (length zs) ok → ((x : ℕ) → is_within l (length zs) x ≡ true → ok x ≡ true) → list_all ok (targets_of (case_codes w at l zs)) ≡ true
@@ -112,7 +112,7 @@ bytes_lead ok at [] cases = refl
 bytes_lead ok at (z ∷ zs) cases = and_from (ok at) _ (cases at (omega (arith, one_same at))) (bytes_lead ok ((at + 1) % 4294967296) zs (λ x h. cases x (omega (arith, h))))
 
 -- the labels of the cases, and that to which it goes where there is none
-abbrev ChoicePasses : ℕ → ℕ → ℕ → (ℕ → Bool) → Type 0
+abbrev pub ChoicePasses : ℕ → ℕ → ℕ → (ℕ → Bool) → Type 0
 ChoicePasses other at n ok = (ok other ≡ true) × CasesPass at n ok
 
 pub choice_puts : (w : Width) (other at : ℕ) (zs : List ℤ) (d : Drafted) → Puts d (with_cases w other at zs d) no_others (ChoicePasses other at (length zs))

@@ -31,11 +31,11 @@ use Rattle.c65_gendirect.specs.Through.{read_bytes_code, point_code, byte_throug
 use Rattle.c65_gendirect.specs.declared.relation.Relation.TheVariants as relations
 use Rattle.c65_gendirect.specs.Bytes.{op_of, takes_y, aside, back, place_byte, byte_above, byte_of, converted}
 use Rattle.c65_gendirect.specs.Words.{instruction, carry_code, first_byte_code, both_bytes_code, onward_code, end_label, is_and, is_number, word_code, add_number_code, taken_from_code, long_mask_code}
-use Rattle.c65_gendirect.specs.Compare.{lowest_code, difference_code, order_code, second_code, same_code, is_sign_test, highest_code, ordered_code, compare_code, compare_byte_code}
+use Rattle.c65_gendirect.specs.Compare.{lowest_code, difference_code, is_turned, turned, turned_code, turned_upper_code, turned_difference_code, order_code, second_code, same_code, is_sign_test, highest_code, ordered_code, compare_code, compare_byte_code}
 use Rattle.c65_gendirect.specs.Tests.{or_code, all_zero_code, zero_test_code, truth_code}
 use Rattle.c65_genshift.specs.declared.quick.Quick.{Quick}
 use Rattle.c65_genshift.specs.declared.quick.Quick.TheVariants.{Shift, Mask}
-use Rattle.c65_genshift.specs.Shifts.{calls_code, turns_code, left_turn, right_turn, left_byte_code, right_byte_code, left_one_code, left_two_code, left_three_code, right_one_code, right_two_code, right_three_code, labelled, left_word_code, right_word_code, left_long_code, right_long_code, shift_code}
+use Rattle.c65_genshift.specs.Shifts.{calls_code, turns_code, left_turn, left_turns, left_bits_code, right_turn, left_byte_code, right_byte_code, left_one_code, left_two_code, left_three_code, right_one_code, right_two_code, right_three_code, labelled, left_word_code, right_word_code, left_long_code, right_long_code, shift_code}
 use Rattle.c65_genshift.specs.Quick.{power_of, mask_word_code, mask_long_code, mask_by_width, quick_lines, quick_code, elements_by, elements_code}
 use Rattle.c65_mach.specs.declared.rows.Op.TheVariants.{Adc, Asl, Bne, Cmp, Cpx, Dey, Lda, Ldx, Ldy, Lsr, Ora, Pla, Sbc, Sec, Sta, Stx, Sty, Tax, Txa}
 use Rattle.c65_genwide.specs.Lines.{value}
@@ -214,6 +214,20 @@ difference_known P r (Long d0 d1 d2 d3) h =
     let third_byte : AllKnown P (zero_page Lda sreg ∷ (op_of Sbc d2 ++ (zero_page Lda (sreg + 1) ∷ op_of Sbc d3))) = known_more tt (known_then (op_known P Sbc d2 h.1.1.0) last) in
     known_then (lowest_known P r d0 h.0) (known_more tt (known_then (op_known P Sbc d1 h.1.0) third_byte))
 
+turned_byte_known : (P : ℕ → Type 0) (byte : OperandByte) → KnownByte P byte → KnownByte P (turned byte)
+turned_byte_known P (bytes.Number v) h = tt
+turned_byte_known P _ h = h
+
+turned_code_known : (P : ℕ → Type 0) (byte : OperandByte) → KnownByte P byte → AllKnown P (turned_code byte)
+turned_code_known P byte h = known_more tt (op_known P Sbc (turned byte) (turned_byte_known P byte h))
+
+turned_difference_known : (P : ℕ → Type 0) (r : Relation) (s : Sides) → KnownSides P s → AllKnown P (turned_difference_code r s)
+turned_difference_known P r (Word low high) h = known_then (lowest_known P r low h.0) (known_more tt (turned_code_known P high h.1))
+turned_difference_known P r (Long d0 d1 d2 d3) h =
+    let last : AllKnown P (zero_page Lda (sreg + 1) ∷ turned_code d3) = known_more tt (turned_code_known P d3 h.1.1.1) in
+    let upper : AllKnown P (turned_upper_code d2 d3) = known_more tt (known_then (op_known P Sbc d2 h.1.1.0) last) in
+    known_then (lowest_known P r d0 h.0) (known_more tt (known_then (op_known P Sbc d1 h.1.0) upper))
+
 order_known : (P : ℕ → Type 0) (r : Relation) (signed : Bool) (l to : ℕ) → AllKnown P (order_code r signed l to)
 order_known P r signed l to = known_if signed (record { all = tt }) (record { all = tt })
 
@@ -238,7 +252,7 @@ highest_known P (Long d0 d1 d2 d3) = record { all = tt }
 ordered_known : (P : ℕ → Type 0) (r : Relation) (signed : Bool) (s : Sides) (l to : ℕ) → KnownSides P s → AllKnown P (ordered_code r signed s l to)
 ordered_known P r signed s l to h =
     known_if (is_sign_test r signed s) (known_then (highest_known P s) (record { all = tt }))
-    (known_then (difference_known P r s h) (order_known P r signed l to))
+    (known_if (is_turned signed s) (known_then (turned_difference_known P r s h) (order_known P r false l to)) (known_then (difference_known P r s h) (order_known P r signed l to)))
 
 pub compare_known : (P : ℕ → Type 0) (r : Relation) (signed : Bool) (s : Sides) (l to : ℕ) → KnownSides P s → AllKnown P (compare_code r signed s l to)
 compare_known P relations.Equal signed s l to h = known_then (same_known P s l h) (end_same P _ l to)
@@ -341,8 +355,15 @@ quick_lines_known P w (Mask m) l = labelled_known P l _ (mask_width_known P w m)
 pub quick_known : (P : ℕ → Type 0) (kind : IntType) (q : Quick) (l : ℕ) → AllKnown P (quick_code kind q l)
 quick_known P kind q l = known_then (quick_lines_known P (width_of kind) q l) (narrow_known P kind)
 
+left_turns_known : (P : ℕ → Type 0) (m : ℕ) → AllKnown P (left_turns m)
+left_turns_known P zero = known_none
+left_turns_known P (suc m) = known_more tt (known_more tt (left_turns_known P m))
+
+left_bits_known : (P : ℕ → Type 0) (m : ℕ) → AllKnown P (left_bits_code m)
+left_bits_known P m = known_more tt (known_then (left_turns_known P m) (record { all = tt }))
+
 elements_by_known : (P : ℕ → Type 0) (size : ℕ) (k : Option ℕ) → AllKnown P (elements_by size k)
-elements_by_known P size (Some k) = known_if (nat_lt k 8) (calls_known P tos.Shl Ax k) (known_if (nat_lt k 16) (left_byte_known P (k - 8)) (scale_known P size))
+elements_by_known P size (Some k) = known_if (nat_lt k 4) (calls_known P tos.Shl Ax k) (known_if (nat_lt k 8) (left_bits_known P k) (known_if (nat_lt k 16) (left_byte_known P (k - 8)) (scale_known P size)))
 elements_by_known P size None = scale_known P size
 
 pub elements_known : (P : ℕ → Type 0) (size : ℕ) → AllKnown P (elements_code size)

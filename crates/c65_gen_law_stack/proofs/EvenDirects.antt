@@ -24,7 +24,7 @@ use Rattle.c65_gendirect.specs.declared.compare.Sides.TheVariants.{Word, Long}
 use Rattle.c65_gendirect.specs.declared.relation.Relation.{Relation}
 use Rattle.c65_gendirect.specs.declared.relation.Relation.TheVariants.{Less, NotLess, Greater, NotGreater, Equal, Unequal}
 use Rattle.c65_gendirect.specs.Bytes.{op_of, takes_y, aside, back}
-use Rattle.c65_gendirect.specs.Compare.{lowest_code, difference_code, by_carry, by_sign, order_code, second_code, same_code, is_sign_test, highest_code, ordered_code, compare_code, compare_byte_code}
+use Rattle.c65_gendirect.specs.Compare.{lowest_code, difference_code, is_turned, turned, turned_code, turned_difference_code, by_carry, by_sign, order_code, second_code, same_code, is_sign_test, highest_code, ordered_code, compare_code, compare_byte_code}
 use Rattle.c65_gendirect.specs.Pointed.{pointer_code, pointed_sum_code}
 use Rattle.c65_gendirect.specs.Tests.{or_code, all_zero_code, zero_test_code, truth_code}
 use Rattle.c65_gendirect.specs.Words.{instruction, carry_code, first_byte_code, both_bytes_code, onward_code, end_label, is_and, is_number, word_code, sum_code, add_number_code, taken_from_code, long_mask_code}
@@ -139,6 +139,15 @@ difference_even r (Long d0 d1 d2 d3) =
     even_on (lowest_even r d0) (even_on (even_lines (implied Txa ∷ []) refl) (even_on (byte_even Sbc d1 refl) (even_on (even_lines (zero_page Lda sreg ∷ []) refl)
     (even_on (byte_even Sbc d2 refl) (even_on (even_lines (zero_page Lda (sreg + 1) ∷ []) refl) (byte_even Sbc d3 refl))))))
 
+turned_code_even : {X : Labels} (d : OperandByte) → Even No X (turned_code d)
+turned_code_even d = even_on (even_lines (value Eor 128 ∷ []) refl) (byte_even Sbc (turned d) refl)
+
+turned_difference_even : {X : Labels} (r : Relation) (sides : Sides) → Even No X (turned_difference_code r sides)
+turned_difference_even r (Word low high) = even_on (lowest_even r low) (even_on (even_lines (implied Txa ∷ []) refl) (turned_code_even high))
+turned_difference_even r (Long d0 d1 d2 d3) =
+    even_on (lowest_even r d0) (even_on (even_lines (implied Txa ∷ []) refl) (even_on (byte_even Sbc d1 refl) (even_on (even_lines (zero_page Lda sreg ∷ []) refl)
+    (even_on (byte_even Sbc d2 refl) (even_on (even_lines (zero_page Lda (sreg + 1) ∷ []) refl) (turned_code_even d3))))))
+
 carry_branches : (r : Relation) → IsReader (by_carry r)
 carry_branches Less = refl
 carry_branches NotGreater = refl
@@ -170,7 +179,7 @@ highest_even (Long d0 d1 d2 d3) = even_lines (zero_page Lda (sreg + 1) ∷ []) r
 ordered_even : {X : Labels} (r : Relation) (is_signed : Bool) (sides : Sides) (fresh to : ℕ) → X to → Even No X (ordered_code r is_signed sides fresh to)
 ordered_even r is_signed sides fresh to x =
     even_if (is_sign_test r is_signed sides) (even_on (highest_even sides) (even_end (even_then (even_label fresh) (even_branch (by_sign r) to (sign_branches r) x)) (λ l z. absurd z) (λ l z. inr z)))
-    (even_on (difference_even r sides) (order_even r is_signed fresh to x))
+    (even_if (is_turned is_signed sides) (even_on (turned_difference_even r sides) (order_even r false fresh to x)) (even_on (difference_even r sides) (order_even r is_signed fresh to x)))
 
 pub compare_even : {X : Labels} (r : Relation) (is_signed : Bool) (sides : Sides) (fresh to : ℕ) → X to → Even No X (compare_code r is_signed sides fresh to)
 compare_even Equal is_signed sides fresh to x = even_close fresh (inr (inr refl)) (even_then (same_even sides fresh (inl refl)) (even_then (even_branch Beq to refl (inr x)) (even_label fresh)))

@@ -15,7 +15,7 @@ use Rattle.c65_genload.specs.Words.{sreg, tmp1, implied, zero_page, shift_a}
 use Rattle.c65_genload.specs.Numbers.{first, second, mask_code, scale_code}
 use Rattle.c65_genshift.specs.declared.quick.Quick.{Quick}
 use Rattle.c65_genshift.specs.declared.quick.Quick.TheVariants.{Shift, Mask}
-use Rattle.c65_genshift.specs.Shifts.{one_of, calls_code, turns_code, left_turn, right_turn, left_byte_code, right_byte_code, left_one_code, left_two_code, left_three_code, right_one_code, right_two_code, right_three_code, left_word_code, right_word_code, left_long_code, right_long_code, shift_code}
+use Rattle.c65_genshift.specs.Shifts.{one_of, calls_code, turns_code, left_turn, left_turns, left_bits_code, right_turn, left_byte_code, right_byte_code, left_one_code, left_two_code, left_three_code, right_one_code, right_two_code, right_three_code, left_word_code, right_word_code, left_long_code, right_long_code, shift_code}
 use Rattle.c65_genshift.specs.Quick.{power_of, mask_word_code, mask_high_code, mask_long_code, mask_by_width, quick_lines, quick_code, elements_by, elements_code}
 use Rattle.c65_gen_law_lines.proofs.Pieces.{narrow_piece, scale_piece}
 use Rattle.c65_gen_law_lines.proofs.StackPieces.{narrow_still, scale_still}
@@ -41,6 +41,13 @@ turns_even : {X : Labels} (turn : List Line) (n label : ℕ) → Even No (Both (
 turns_even turn n label p =
     even_close label (inr (inl refl)) (even_then (even_lines (zero_page Stx tmp1 ∷ value Ldy n ∷ []) refl) (even_then (even_label label) (even_then p
     (even_then (even_lines (implied Dey ∷ []) refl) (even_then (even_branch Bne label refl (inl refl)) (even_lines (zero_page Ldx tmp1 ∷ []) refl))))))
+
+left_turns_even : {X : Labels} (n : ℕ) → Even No X (left_turns n)
+left_turns_even zero = even_lines [] refl
+left_turns_even (suc n) = even_on (even_lines left_turn refl) (left_turns_even n)
+
+left_bits_even : {X : Labels} (n : ℕ) → Even No X (left_bits_code n)
+left_bits_even n = even_on (even_lines (zero_page Stx tmp1 ∷ []) refl) (even_on (left_turns_even n) (even_lines (zero_page Ldx tmp1 ∷ []) refl))
 
 left_byte_even : {X : Labels} (n : ℕ) → Even No X (left_byte_code n)
 left_byte_even n = even_on (left_even n) (even_lines (implied Tax ∷ value Lda 0 ∷ []) refl)
@@ -102,7 +109,7 @@ pub quick_even : {X : Labels} (kind : IntType) (quick : Quick) (label : ℕ) →
 quick_even kind quick label = even_on (quick_lines_even (width_of kind) quick label) (narrow_even kind)
 
 elements_by_even : {X : Labels} (size : ℕ) (k : Option ℕ) → Even No X (elements_by size k)
-elements_by_even size (Some k) = even_if (nat_lt k 8) (calls_even tos.Shl Ax k) (even_if (nat_lt k 16) (left_byte_even (k - 8)) (scale_even size))
+elements_by_even size (Some k) = even_if (nat_lt k 4) (calls_even tos.Shl Ax k) (even_if (nat_lt k 8) (left_bits_even k) (even_if (nat_lt k 16) (left_byte_even (k - 8)) (scale_even size)))
 elements_by_even size None = scale_even size
 
 pub elements_even : {X : Labels} (size : ℕ) → Even No X (elements_code size)
