@@ -1,19 +1,20 @@
 // What the rules make at a place.
 ghost use Rattle.std.specs.Prelude.{◌≡◌, ◌≤◌, [], Some};
-ghost use Rattle.c65_code.specs.Segments.{is_closing, is_among, targets_of};
-ghost use Rattle.c65_pass.specs.FlowRules.{sent_to, begins_plainly, goes_on_plainly, inverted, is_unused};
+ghost use Rattle.c65_code.specs.Segments.{is_closing};
+ghost use Rattle.c65_know.specs.Known.{annotated};
+ghost use Rattle.c65_pass.specs.FlowRules.{sent_to, begins_plainly, goes_on_plainly, inverted};
 ghost use Rattle.c65_pass.specs.Labels.{begins_with_target};
 ghost use Rattle.c65_pass.specs.Passes.{Answers};
 ghost use Rattle.c65_pass.specs.Rules.{match_at};
 
 use crate::branches::{is_passed, is_taken, opposite};
-use c65_code::{Line, Operand};
+use c65_code::{Line, Operand, Seg};
 use c65_know::Noted;
 use c65_live::LiveTable;
 use c65_mach::{Mode, Op};
 use c65_pass::{
     Found, Rewrite, alone_if, begins_with, branch_target, gone_if, is_label, jump_target,
-    lines_from, retargeted, threaded,
+    lines_from, lines_of, retargeted, threaded,
 };
 use std::alloc::Global;
 
@@ -66,28 +67,6 @@ fn goes_on_plainly(lines: &[Line]) -> bool
     }
 }
 
-fn is_target(lines: &[Line], label: u32) -> bool
-    ensures { result ≡ is_among (targets_of lines.now) label }
-{
-    for line in lines {
-        if let Line::Do(_, _, Operand::To(other)) = line {
-            if label == *other {
-                return true;
-            }
-        }
-    }
-    false
-}
-
-fn is_unused(lines: &[Line], line: &Line) -> bool
-    ensures { result ≡ is_unused lines.now line.now }
-{
-    match line {
-        Line::Label(label) => !is_target(lines, *label),
-        Line::Do(_, _, _) | Line::Call(_) => false,
-    }
-}
-
 fn inverted(alloc: Global, at: usize, line: &Line, after: &[Line]) -> Found
     ensures { Answers (inverted at line.now after.now) result }
 {
@@ -107,14 +86,14 @@ fn inverted(alloc: Global, at: usize, line: &Line, after: &[Line]) -> Found
     Ok(Some(Rewrite::new(alloc, at, 2, &[branch])?))
 }
 
-/// What one of the rules makes at a place.
-pub fn find(alloc: Global, code: &Noted, _live: &LiveTable, at: usize, rule: u8) -> Found
+/// What one of the rules makes at a place that ask the lines alone.
+pub fn find_jump(alloc: Global, seg: &Seg, _live: &LiveTable, at: usize, rule: u8) -> Found
     requires first { 1 ≤ rule }
-    requires last { rule ≤ 9 }
-    ensures { Answers (match_at rule [] code.now _live.now at) result }
+    requires last { rule ≤ 6 }
+    ensures { Answers (match_at rule [] (annotated seg.now.lines seg.now.out) _live.now at) result }
 {
-    let lines = code.seg().lines();
-    let [line, after @ ..] = lines_from(code, at) else {
+    let lines = seg.lines();
+    let [line, after @ ..] = lines_of(seg, at) else {
         return Ok(None);
     };
     match rule {
@@ -127,9 +106,20 @@ pub fn find(alloc: Global, code: &Noted, _live: &LiveTable, at: usize, rule: u8)
         4 => sent_to(alloc, threaded(lines, jump_target(line)), at, line),
         5 => sent_to(alloc, threaded(lines, branch_target(line)), at, line),
         // a branch round a JMP
-        6 => inverted(alloc, at, line, after),
-        // a label to which no line refers
-        7 => gone_if(alloc, is_unused(lines, line), at),
+        _ => inverted(alloc, at, line, after),
+    }
+}
+
+/// What one of the rules makes at a place that ask the notes.
+pub fn find_noted(alloc: Global, code: &Noted, _live: &LiveTable, at: usize, rule: u8) -> Found
+    requires first { 8 ≤ rule }
+    requires last { rule ≤ 9 }
+    ensures { Answers (match_at rule [] code.now _live.now at) result }
+{
+    let [line, after @ ..] = lines_from(code, at) else {
+        return Ok(None);
+    };
+    match rule {
         // a branch that is not taken, as the note before it shows
         8 => gone_if(alloc, is_passed(code, at, line), at),
         // a line that is no label and not the last, after a branch that is taken, as the note before it shows

@@ -3,14 +3,15 @@ ghost use Rattle.std.specs.Prelude.{⊤};
 ghost use Rattle.c65_pass.specs.Rounds.{Only, IsRuleOf, IsPassed};
 
 use crate::drop::drop_unused_labels;
-use crate::find::find;
+use crate::find::{find_jump, find_noted};
 use c65_base::{Options, Refusal};
+use c65_code::Seg;
 use c65_know::Noted;
 use c65_live::LiveTable;
-use c65_pass::{Rules, run_flow_rule, run_rules};
+use c65_pass::{Rules, run_flow_rule, run_jump_rule, run_rules};
 use std::alloc::Global;
 
-// The rule on labels to which no line refers.
+// The rule on labels to which no line refers. Those before it ask the lines alone, those behind it the notes too.
 const UNUSED_LABELS: u8 = 7;
 
 // The rules by their numbers.
@@ -27,10 +28,14 @@ impl Rules for FlowRules {
     ghost ready = { λ rules code. ⊤ };
 
     fn run(&mut self, alloc: Global, code: &mut Noted, turn: u8) -> Result<usize, Refusal> {
+        if turn < UNUSED_LABELS {
+            let find = |s: &Seg, l: &LiveTable, at: usize| find_jump(alloc, s, l, at, turn);
+            return run_jump_rule(alloc, code, turn, find);
+        }
         if turn == UNUSED_LABELS {
             return drop_unused_labels(alloc, code);
         }
-        let find = |n: &Noted, l: &LiveTable, at: usize| find(alloc, n, l, at, turn);
+        let find = |n: &Noted, l: &LiveTable, at: usize| find_noted(alloc, n, l, at, turn);
         run_flow_rule(alloc, code, turn, find)
     }
 }

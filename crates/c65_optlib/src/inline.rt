@@ -1,13 +1,14 @@
 // Opening calls of routines, as the options ask for it.
 ghost use Rattle.std.specs.Prelude.{true};
 ghost use Rattle.c65_optlib.specs.Library.{IsWalked, AreOpened};
+ghost use Rattle.c65_know.specs.Known.{annotated};
 ghost use Rattle.c65_pass.specs.Passes.{Answers};
 ghost use Rattle.c65_pass.specs.Rules.{match_at};
 
 use crate::known::find_known;
 use crate::opened::find_call;
 use c65_base::{Options, Refusal};
-use c65_code::Literals;
+use c65_code::{Literals, Seg};
 use c65_know::Noted;
 use c65_live::LiveTable;
 use c65_pass::{Pass, run_once};
@@ -20,9 +21,9 @@ fn walk_calls(alloc: Global, code: &mut Noted, literals: &Literals) -> Result<us
     let pass = Pass::once(
         39,
         literals,
-        |n: &Noted, l: &LiveTable, at: usize|
-            ensures { (literals : _) → Answers (match_at 39 literals n.now l.now at) result }
-        { find_call(alloc, n, l, at) },
+        |s: &Seg, l: &LiveTable, at: usize|
+            ensures { (literals : _) → Answers (match_at 39 literals (annotated s.now.lines s.now.out) l.now at) result }
+        { find_call(alloc, s, l, at) },
     );
     run_once(alloc, code, &pass)
 }
@@ -34,9 +35,9 @@ fn walk_known(alloc: Global, code: &mut Noted, literals: &Literals) -> Result<us
     let pass = Pass::once(
         40,
         literals,
-        |n: &Noted, l: &LiveTable, at: usize|
-            ensures { Answers (match_at 40 literals.entry.now.items n.now l.now at) result }
-        { find_known(alloc, n, l, literals, at) },
+        |s: &Seg, l: &LiveTable, at: usize|
+            ensures { Answers (match_at 40 literals.entry.now.items (annotated s.now.lines s.now.out) l.now at) result }
+        { find_known(alloc, s, l, literals, at) },
     );
     run_once(alloc, code, &pass)
 }

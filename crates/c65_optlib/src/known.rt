@@ -1,5 +1,6 @@
 // Calls of functions of the library with arguments that the lines before show, and the lines that do what they do.
 ghost use Rattle.std.specs.Prelude.{◌≡◌, ◌++◌, ◌+◌, ◌-◌, ◌<◌, ◌^◌, true, Some, length, OnOk};
+ghost use Rattle.c65_know.specs.Known.{annotated};
 ghost use Rattle.c65_pass.specs.KnownCalls.{with_value, on_zero, through, times, byte_copied, byte_filled, given_back, measured, copied, filled, text_copied, compared, call_known, lines_known, known_call};
 ghost use Rattle.c65_pass.specs.Passes.{Answers};
 ghost use Rattle.c65_pass.specs.Rules.{match_at};
@@ -7,11 +8,10 @@ ghost use Rattle.c65_pass.specs.StackRules.{is_settled, in_place, call_of, word_
 
 use crate::texts::{at_most, count_loaded, text_loaded};
 use c65_base::Library;
-use c65_code::{Callee, Line, Literals, Operand, Routine};
-use c65_know::Noted;
+use c65_code::{Callee, Line, Literals, Operand, Routine, Seg};
 use c65_live::LiveTable;
 use c65_mach::{Mode, Op};
-use c65_pass::{Found, alone, in_place, is_settled, lines_from, word_loaded};
+use c65_pass::{Found, alone, in_place, is_settled, lines_of, word_loaded};
 use std::alloc::{AllocError, Global};
 
 fn with_value(op: Op, value: u8) -> Line
@@ -219,14 +219,14 @@ fn known_call(
 /// Rule 40: two loads and a call of a function of the library that a few lines stand for.
 pub fn find_known(
     alloc: Global,
-    code: &Noted,
+    seg: &Seg,
     live: &LiveTable,
     literals: &Literals,
     at: usize,
 ) -> Found
-    ensures { Answers (match_at 40 literals.now.items code.now live.now at) result }
+    ensures { Answers (match_at 40 literals.now.items (annotated seg.now.lines seg.now.out) live.now at) result }
 {
-    match lines_from(code, at) {
+    match lines_of(seg, at) {
         [one, after @ ..] => known_call(alloc, live, literals, at, one, after),
         _ => Ok(None),
     }

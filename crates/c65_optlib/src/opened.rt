@@ -3,16 +3,16 @@ ghost use Rattle.std.specs.Prelude.{◌≡◌, true};
 ghost use Rattle.c65_code.specs.declared.routine.Routine.TheVariants as routines;
 ghost use Rattle.c65_code.specs.declared.routine.UnaryRoutine.TheVariants.{Neg, Compl, Shl1, Shr1, Asr1};
 ghost use Rattle.c65_code.specs.declared.routine.Width.TheVariants.{Ax};
+ghost use Rattle.c65_know.specs.Known.{annotated};
 ghost use Rattle.c65_pass.specs.LibraryRules.{with_byte, on_stack, on_tmp1, on_a, opened, call_opened};
 ghost use Rattle.c65_pass.specs.Passes.{Answers};
 ghost use Rattle.c65_pass.specs.Rules.{match_at};
 ghost use Rattle.c65_pass.specs.StackRules.{is_settled, in_place};
 
-use c65_code::{Callee, Line, Operand, Routine, UnaryRoutine, Width};
-use c65_know::Noted;
+use c65_code::{Callee, Line, Operand, Routine, Seg, UnaryRoutine, Width};
 use c65_live::LiveTable;
 use c65_mach::{Mode, Op};
-use c65_pass::{Found, alone, in_place, is_settled, lines_from};
+use c65_pass::{Found, alone, in_place, is_settled, lines_of};
 use std::alloc::Global;
 
 fn with_byte(op: Op, value: u8) -> Line
@@ -179,10 +179,10 @@ fn call_opened(alloc: Global, live: &LiveTable, at: usize, line: &Line) -> Found
 }
 
 /// Rule 39: a call of a routine that few lines stand for.
-pub fn find_call(alloc: Global, code: &Noted, live: &LiveTable, at: usize) -> Found
-    ensures { (literals : _) → Answers (match_at 39 literals code.now live.now at) result }
+pub fn find_call(alloc: Global, seg: &Seg, live: &LiveTable, at: usize) -> Found
+    ensures { (literals : _) → Answers (match_at 39 literals (annotated seg.now.lines seg.now.out) live.now at) result }
 {
-    match lines_from(code, at) {
+    match lines_of(seg, at) {
         [line, ..] => call_opened(alloc, live, at, line),
         _ => Ok(None),
     }

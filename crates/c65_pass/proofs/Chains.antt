@@ -1,21 +1,21 @@
 -- What a chain of rewritings keeps.
 use Rattle.std.proofs.Common.{◌≡◌, ◌⊎◌, inl, inr, ℕ, zero, suc, ◌+◌, ◌-◌, ◌*◌, ◌<◌, ◌≤◌, List, [], ◌∷◌, Some, None, drop, length, refl, sym, subst, arith, ap, ◌∙◌}
 use Rattle.std.proofs.lemmas.Bool.{cases_lt}
-use Rattle.std.specs.Prelude.{All, IfErr, IsErr, Result, min}
+use Rattle.std.specs.Prelude.{All, IfErr, IsErr, Result, Ok, min}
 use Rattle.std.proofs.lemmas.Result.{IfOk-from_err}
 use Rattle.c65_base.specs.declared.refusal.Refusal.{Refusal}
 use Rattle.c65_base.specs.declared.refusal.Refusal.TheVariants.{OutOfMemory}
 use Rattle.c65_code.specs.declared.line.Line.{Line}
 use Rattle.c65_code.specs.declared.line.Sym.{Sym}
 use Rattle.c65_code.specs.declared.parts.RegSet.{RegSet}
-use Rattle.c65_code.specs.Segments.{IsSegment}
+use Rattle.c65_code.specs.Segments.{IsSegment, Segment}
 use Rattle.c65_code.specs.Weights.{lines_size}
 use Rattle.c65_code.specs.Writable.{IsLineWritable}
-use Rattle.c65_know.specs.Known.{Annotated, annotated}
+use Rattle.c65_know.specs.Known.{Annotated, annotated, known_of}
 use Rattle.c65_live.specs.Tables.{Table, IsLiveTable}
 use Rattle.c65_pass.specs.Rewriting.{Rewriting, bulk, Keeps, rewritten}
 use Rattle.c65_pass.specs.Rules.{match_there, match_at}
-use Rattle.c65_pass.specs.Passes.{IsTableOf, IsTableFor, IsGood, Rewrites, none, more, IsFree, IsRun, counted}
+use Rattle.c65_pass.specs.Passes.{IsTableOf, IsTableFor, IsGood, Rewrites, none, more, IsFree, IsRun, counted, last_flow_rule}
 use Rattle.c65_pass.proofs.Ranks.{rank, lower_rank, lower_bulk, turn}
 
 pub record Kept (old : List Line) (n : ℕ) (new : List Line) : Type 0 where
@@ -176,3 +176,26 @@ nowhere rule literals code table n h before at = go (cases_lt at n)
     go : (at < n) ⊎ (n ≤ at) → match_at rule literals code table at ≡ None
     go (inl less) = before at less
     go (inr no_less) = ap (match_there rule literals code table at) (past code.lines at (omega (arith, h, no_less)))
+
+-- no rule on jumps, branches and labels asks what is live
+pub unasked : (rule : ℕ) (code : Annotated) (table : Table) → rule ≤ last_flow_rule → IsTableFor rule code table
+unasked rule code table flow asks = absurd (omega (arith, flow, asks))
+
+-- a run over a copy of the lines is one over the lines themselves
+pub run_copied : (rule : ℕ) (literals : List (Sym × List ℕ)) (code : Annotated) (seen copy : Segment) (now : Annotated) (result : Result ℕ Refusal) → seen.lines ≡ code.lines → seen.out ≡ code.out
+    → code.notes ≡ known_of code.lines → copy ≡ seen → IsRun rule literals (annotated copy.lines copy.out) now result → IsRun rule literals code now result
+run_copied rule literals code seen copy now result lines out notes same run =
+    let copied : annotated copy.lines copy.out ≡ annotated seen.lines seen.out = ap (λ s. annotated s.lines s.out) same in
+    let seen_out : annotated seen.lines seen.out ≡ annotated seen.lines code.out = ap (annotated seen.lines) out in
+    let seen_lines : annotated seen.lines code.out ≡ annotated code.lines code.out = ap (λ ls. annotated ls code.out) lines in
+    let noted : annotated code.lines code.out ≡ code = ap (λ ns. record { lines = code.lines; out = code.out; notes = ns }) (sym notes) in
+    subst (λ old. IsRun rule literals old now result) (copied ∙ (seen_out ∙ (seen_lines ∙ noted))) run
+
+pub run_noted : (rule : ℕ) (literals : List (Sym × List ℕ)) (code now noted : Annotated) (result : Result ℕ Refusal) → noted ≡ now → IsRun rule literals code now result
+    → IsRun rule literals code noted result
+run_noted rule literals code now noted result e run = subst (λ new. IsRun rule literals code new result) (sym e) run
+
+-- one that made nothing leaves all as it was
+pub run_idle : (rule : ℕ) (literals : List (Sym × List ℕ)) (code now : Annotated) (made : ℕ) → IsRun rule literals code now (Ok made) → made ≡ 0 → IsRun rule literals code code (Ok 0)
+run_idle rule literals code now made run idle =
+    subst (λ new. IsRun rule literals code new (Ok 0)) (run.same idle) (subst (λ n. IsRun rule literals code now (Ok n)) idle run)

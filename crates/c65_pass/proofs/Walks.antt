@@ -1,16 +1,16 @@
 -- A walk over the lines, so far.
-use Rattle.std.proofs.Common.{◌≡◌, ℕ, suc, ◌+◌, ◌-◌, ◌<◌, ◌≤◌, List, ◌++◌, Some, None, take, drop, length, length-append, length-drop, sym, subst, arith, ap}
+use Rattle.std.proofs.Common.{◌≡◌, ℕ, suc, ◌+◌, ◌-◌, ◌^◌, ◌<◌, ◌≤◌, List, ◌++◌, Some, None, take, drop, length, length-append, length-drop, sym, subst, arith, ap, ◌∙◌}
 use Rattle.std.specs.Prelude.{All}
 use Rattle.std.proofs.lemmas.List.{length-take}
 use Rattle.c65_code.specs.declared.line.Line.{Line}
 use Rattle.c65_code.specs.declared.line.Sym.{Sym}
 use Rattle.c65_code.specs.declared.parts.RegSet.{RegSet}
-use Rattle.c65_code.specs.Segments.{IsSegment}
+use Rattle.c65_code.specs.Segments.{IsSegment, Segment}
 use Rattle.c65_code.specs.Weights.{lines_size}
 use Rattle.c65_code.specs.Writable.{IsLineWritable}
 use Rattle.c65_know.specs.Known.{Annotated, annotated}
 use Rattle.c65_live.specs.Tables.{Table}
-use Rattle.c65_pass.specs.Once.{Stays, IsGoodOnce, Once, ends, passes, makes}
+use Rattle.c65_pass.specs.Once.{Stays, IsGoodOnce, Once, IsOnce, ends, passes, makes}
 use Rattle.c65_pass.specs.Passes.{IsTableOf, Rewrites, none}
 use Rattle.c65_pass.specs.Rewriting.{Rewriting, rewritten}
 use Rattle.c65_pass.specs.Rules.{match_at}
@@ -89,6 +89,10 @@ pub walk_nearer : (lines new put : List Line) (at from : ℕ) (w : Rewriting) �
     → length new - (from + length put) < length lines - at
 walk_nearer lines new put at from w keeps e f l = omega (arith, keeps.here, keeps.some, keeps.within, rewritten_length lines at w keeps, ap length e, f, ap length l)
 
+pub walk_fits : (lines new now put : List Line) (at from : ℕ) (w : Rewriting) → Stays lines at w → new ≡ rewritten lines w → from ≡ w.at → put ≡ w.lines → now ≡ new → length now < 2 ^ 64
+    → from + length put < 2 ^ 64
+walk_fits lines new now put at from w keeps e f l n few = omega (arith, keeps.within, rewritten_length lines at w keeps, ap length e, f, ap length l, ap length n, few)
+
 pub walk_placed : (rule : ℕ) (literals : List (Sym × List ℕ)) (out : RegSet) (old put : List Line) (n from : ℕ) (code : Annotated) (table : Table) (w : Rewriting)
     → from ≡ w.at → put ≡ w.lines → Walk rule literals out old n (w.at + length w.lines) code table → Walk rule literals out old n (from + length put) code table
 walk_placed rule literals out old put n from code table w f l walk = subst (λ at. Walk rule literals out old n (at + length put) code table) (sym f) (subst (λ ls. Walk rule literals out old n (w.at + length ls) code table) (sym l) walk)
@@ -105,3 +109,16 @@ walk_end rule literals out old n at code table walk end =
     let whole : Once rule literals out code.lines 0 old (0 + n) = walk.rest 0 code.lines (ends end) in
     let e : 0 + n ≡ n = omega arith in
     subst (λ m. Once rule literals out code.lines 0 old m) e whole
+
+-- a walk over a copy of the lines, which are noted anew after it, is one over the lines themselves
+pub walked_copy : (rule : ℕ) (literals : List (Sym × List ℕ)) (old new : Annotated) (seen copy walked : Segment) (made : ℕ) → seen.lines ≡ old.lines → seen.out ≡ old.out → copy ≡ seen
+    → walked.out ≡ copy.out → new ≡ annotated walked.lines walked.out → IsOnce rule literals copy.out copy.lines walked.lines made
+    → IsOnce rule literals old.out old.lines new.lines made × (new.out ≡ old.out)
+walked_copy rule literals old new seen copy walked made lines out same kept noted once =
+    let old_lines : copy.lines ≡ old.lines = ap (λ s. s.lines) same ∙ lines in
+    let old_out : copy.out ≡ old.out = ap (λ s. s.out) same ∙ out in
+    let new_lines : walked.lines ≡ new.lines = sym (ap (λ a. a.lines) noted) in (
+      subst (λ ls. IsOnce rule literals old.out old.lines ls made) new_lines
+          (subst (λ ls. IsOnce rule literals old.out ls walked.lines made) old_lines (subst (λ o. IsOnce rule literals o copy.lines walked.lines made) old_out once)),
+      ap (λ a. a.out) noted ∙ (kept ∙ old_out),
+    )

@@ -8,7 +8,7 @@ use Rattle.c65_code.specs.Weights.{lines_size}
 use Rattle.c65_code.specs.Writable.{IsLineWritable}
 use Rattle.c65_know.specs.Known.{Annotated, known_of, annotated}
 use Rattle.c65_live.specs.Tables.{Table}
-use Rattle.c65_pass.specs.Passes.{IsTableOf}
+use Rattle.c65_pass.specs.Passes.{IsTableOf, Rewrites, counted}
 use Rattle.c65_pass.specs.Rewriting.{Rewriting, rewritten}
 use Rattle.c65_pass.specs.Rules.{match_at}
 
@@ -35,3 +35,13 @@ pub data Once (rule : ℕ) (literals : List (Sym × List ℕ)) (out : RegSet) (n
   makes : {at n : ℕ} {lines : List Line} {w : Rewriting} (table : Table) → IsTableOf (annotated lines out) table
       → match_at rule literals (annotated lines out) table at ≡ Some w
       → Once rule literals out new (w.at + length w.lines) (rewritten lines w) n → Once rule literals out new at lines (suc n)
+
+-- what stands after one walk, by the count of its rewritings
+pub record IsOnce (rule : ℕ) (literals : List (Sym × List ℕ)) (out : RegSet) (old new : List Line) (answer : ℕ) : Type 0 where
+  pub times : ℕ
+  pub once : Once rule literals out new 0 old times
+  pub chain : Rewrites rule literals out old times new
+  pub made : answer ≡ counted times
+  pub segments : IsSegment old × IsSegment new
+  pub extent : lines_size new ≤ lines_size old
+  pub writable : (n : ℕ) → All (IsLineWritable n) old → All (IsLineWritable n) new

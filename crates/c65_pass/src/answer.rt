@@ -6,20 +6,28 @@ ghost use Rattle.c65_pass.specs.Passes.{Answers};
 
 use crate::rewrite::Rewrite;
 use c65_base::Refusal;
-use c65_code::Line;
+use c65_code::{Line, Seg};
 use c65_know::Noted;
 use std::alloc::Global;
 
 /// What a rule makes at a place, or want of memory.
 pub type Found = Result<Option<Rewrite>, Refusal>;
 
+/// The lines of a segment from a place on.
+pub fn lines_of(seg: &Seg, at: usize) -> &[Line]
+    ensures lines { result.now ≡ drop at seg.now.lines }
+    ensures end { 0 < length result.now → at + length result.now < 2 ^ 64 }
+{
+    let lines = seg.lines();
+    if at < lines.len() { &lines[at..] } else { &[] }
+}
+
 /// The lines of a function from a place on.
 pub fn lines_from(code: &Noted, at: usize) -> &[Line]
     ensures lines { result.now ≡ drop at code.now.lines }
     ensures end { 0 < length result.now → at + length result.now < 2 ^ 64 }
 {
-    let lines = code.seg().lines();
-    if at < lines.len() { &lines[at..] } else { &[] }
+    lines_of(code.seg(), at)
 }
 
 /// The line at a place goes.

@@ -2,15 +2,16 @@
 ghost use Rattle.std.specs.Prelude.{◌≡◌, ◌≤◌, ◌<◌, ℕ, [], IfOk, IfErr};
 ghost use Rattle.c65_base.specs.declared.refusal.Refusal.TheVariants.{OutOfMemory};
 ghost use Rattle.c65_code.specs.Segments.{IsSegment};
-ghost use Rattle.c65_know.specs.Known.{Annotated};
+ghost use Rattle.c65_know.specs.Known.{Annotated, annotated};
 ghost use Rattle.c65_pass.specs.Passes.{Answers, IsTableOf, IsGood, counted, last_flow_rule};
 ghost use Rattle.c65_pass.specs.Rounds.{Only, InTurn, AreFree, AreGood, RulesRewrite, IsPassed};
 ghost use Rattle.c65_pass.specs.Rules.{match_at};
 
+use crate::lines::run_lines;
 use crate::rewrite::{Pass, Rewrite};
 use crate::run::run_pass_on;
 use c65_base::Refusal;
-use c65_code::{Items, Literals};
+use c65_code::{Items, Literals, Seg};
 use c65_know::Noted;
 use c65_live::LiveTable;
 use std::alloc::Global;
@@ -78,6 +79,31 @@ pub fn run_flow_rule<F: Fn(&Noted, &LiveTable, usize) -> Result<Option<Rewrite>,
     };
     let pass = Pass::new(rule, &literals, find);
     run_pass_on(code, &mut LiveTable::empty(alloc), &pass)
+}
+
+/// A pass of one of the rules on jumps, branches and labels that ask the lines alone. Its function answers exactly what the rule
+/// makes at a place, or that memory is wanted.
+pub fn run_jump_rule<F: Fn(&Seg, &LiveTable, usize) -> Result<Option<Rewrite>, Refusal> + Drop>(
+    alloc: Global,
+    code: &mut Noted,
+    rule: u8,
+    find: F,
+) -> Result<usize, Refusal>
+    requires callable { (n : _) (l : _) (at : ℕ) → F.pre find n l at }
+    requires exact { (n : _) (l : _) (at : ℕ) (r : _) → F.post find n l at r → Answers (match_at rule [] (annotated n.now.lines n.now.out) l.now at) r }
+    requires good { IsGood rule [] }
+    requires flow { rule ≤ last_flow_rule }
+    ensures { IsPassed (Only rule) code.old code.new result }
+{
+    let literals = Literals {
+        items: Items::from_vec(Vec::new(alloc)),
+    };
+    let pass = Pass {
+        rule,
+        literals: &literals,
+        find,
+    };
+    run_lines(alloc, code, &pass)
 }
 
 // Each turn once.
