@@ -1,9 +1,9 @@
-mod Sound
+pub mod Sound
 mod Ahead
 mod Lookahead
 mod Further
 mod Opened
-mod ByLines
+pub mod ByLines
 mod Settling
 mod Adding
 mod Held

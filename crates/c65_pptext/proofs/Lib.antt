@@ -1,0 +1,8 @@
+mod Lines
+mod Pieces
+mod Ahead
+mod Taken
+mod Told
+mod Leads
+mod Steps
+mod Behind
