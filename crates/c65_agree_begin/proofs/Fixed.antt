@@ -1,5 +1,5 @@
 -- Objects of blocks that have one place for the whole run have data of their own.
-use Rattle.std.proofs.Common.{◌≡◌, ℕ, ◌+◌, ◌<◌, List, Option, Some, None, Bool, true, false, refl, sym, ap, ◌∙◌, arith}
+use Rattle.std.proofs.Common.{◌≡◌, ℕ, ◌+◌, ◌<◌, List, [], Option, Some, None, Bool, true, false, refl, sym, ap, ◌∙◌, arith}
 use Rattle.std.specs.Prelude.{length, slice_get, ◌||◌, if◌then◌else◌}
 use Rattle.c65_ctype.specs.Trees.{type_in}
 use Rattle.c65_ctype.specs.Views.{types_of}
@@ -26,6 +26,7 @@ pub record HasFixedDatum (g : World) (i : ℕ) : Type 0 where
   pub datum : Datum
   pub is : IsDatumOf g.code index datum
   pub symbol : datum.sym.0 ≡ i
+  pub blank : datum.cells ≡ []
   pub size : size_of_datum datum ≡ object_size (unit_in g).types (object_in (unit_in g) i)
   pub below : i < length g.parts.objects.items
 
@@ -57,6 +58,7 @@ fixed_datum g names i code plain fixed = go (object_in (unit_in g) i) refl fixed
           datum = blank (object_symbol (numbers_of g.parts) i) false bytes;
           is = ap (λ ds. slice_get ds found.0) code.datums ∙ (found.1 ∙ ap Some same);
           symbol = refl;
+          blank = refl;
           size = none_more bytes ∙ sym (ap (λ (z : ObjectTy). bytes_or (types_of g.parts.types) (type_in z.ty) 65536) m.same) ∙ (size ∙ sym (ap (object_size (unit_in g).types) e));
           below = item_below g.parts.objects.items i m.item m.is;
         }

@@ -27,7 +27,7 @@ use Rattle.c65_agree_call.specs.Laws.{CallsByNameEnter, CallsThroughPointersEnte
 
 -- ---- what a call keeps
 
-first_in : (r s : RegSet) (p : Part) → IsTrue (has_part r p) → IsTrue (has_part (union_of r s) p)
+pub first_in : (r s : RegSet) (p : Part) → IsTrue (has_part r p) → IsTrue (has_part (union_of r s) p)
 first_in r s p h = has_part-union r s p ∙ ap (λ b. b || has_part s p) h
 
 or_true : (b : Bool) → (b || true) ≡ true

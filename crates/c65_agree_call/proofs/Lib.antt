@@ -1,3 +1,5 @@
+pub mod Called
 pub mod Entering
 pub mod Meant
 pub mod Put
+pub mod Whole

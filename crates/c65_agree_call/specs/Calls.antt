@@ -1,26 +1,40 @@
--- The line and the step of a call of a function that has lines of its own (C90 6.3.2.2; docs/MACHINE.md, "Calls").
-use Rattle.std.specs.Prelude.{◌≡◌, ℕ, suc, true, false, IsTrue, List, ◌∷◌, Ok, None}
+-- A call of a function that has lines of its own, from its line to the line behind it (C90 6.3.2.2; docs/MACHINE.md, "Calls").
+use Rattle.std.specs.Prelude.{◌≡◌, ℕ, suc, ◌+◌, ◌*◌, ◌<◌, ◌≤◌, true, false, IsTrue, List, [], ◌∷◌, Ok, Some, None, length, slice_get}
 use Rattle.c65_ctype.specs.Trees.{Ty}
 use Rattle.c65_csem.specs.Trees.{Stmt, FuncTy, UnitTy}
-use Rattle.c65_meaning.specs.Store.{Value}
-use Rattle.c65_meaning.specs.Calls.{accepts}
+use Rattle.c65_meaning.specs.Store.{Value, Shape}
+use Rattle.c65_meaning.specs.Items.{Item, Leave, plan_stmt}
+use Rattle.c65_meaning.specs.Calls.{is_variadic, accepts}
 use Rattle.c65_meaning.specs.Costs.{has_fixed, argument_bytes, soft_cost}
 use Rattle.c65_meaning.specs.State as meaning
-use Rattle.c65_meaning.specs.State.{Scene, turned}
+use Rattle.c65_meaning.specs.State.{Scene, Running, turned, soft_sum}
 use Rattle.c65_meaning.specs.Step.{are_values, is_active, is_deep, new_frame, with_passed}
+use Rattle.c65_code.specs.declared.line.Line.TheVariants.{Label}
 use Rattle.c65_code.specs.declared.parts.Part.{Part}
 use Rattle.c65_code.specs.declared.parts.RegSet.{RegSet}
 use Rattle.c65_code.specs.Parts.{has_part}
-use Rattle.c65_code.specs.LineState.{State, Frame, Same}
-use Rattle.c65_code.specs.Moves.{IsCallee}
+use Rattle.c65_code.specs.LineState.{State, Frame, Same, sp_of}
+use Rattle.c65_code.specs.Moves.{IsCallee, common_of}
+use Rattle.c65_code.specs.Placement.{stack_end}
 use Rattle.c65_code.specs.Steady.{HasLines}
 use Rattle.c65_code.specs.Comes.{Seen}
+use Rattle.c65_genframe.specs.Frames.{saved_bytes}
 use Rattle.c65_genframe.specs.Symbols.{numbers_of, function_symbol}
+use Rattle.c65_genentry.specs.Entry.{entry_code}
+use Rattle.c65_genentry.specs.Ends.{end_code}
 use Rattle.c65_agree_store.specs.Stands.{Placing, Banks}
-use Rattle.c65_agree_state.specs.World.{World, setting_in, Active, lines_of, place_in, HasTurns}
+use Rattle.c65_agree_state.specs.World.{World, unit_in, setting_in, Active, lines_of, place_in, HasAt, IsPlaced, HasTurns}
+use Rattle.c65_agree_state.specs.Joins.{Joins, spot_of, call_bytes}
 use Rattle.c65_agree_state.specs.Follows.{Follows}
-use Rattle.c65_agree_state.specs.Exprs.{Ready, Kept}
-use Rattle.c65_agree_enter.specs.Laws.{IsAtEntry}
+use Rattle.c65_agree_state.specs.Exprs.{Ready, Valued, MayFit, ResultIs, Kept, width_in}
+use Rattle.c65_agree_state.specs.Stmts.{Between, ReturnLeads}
+use Rattle.c65_agree_frame.specs.Ends.{IsPrimary}
+use Rattle.c65_agree_frame.specs.Entries.{arriving, IsPlainFrame}
+use Rattle.c65_agree_leave.specs.Calls.{IsBehind}
+use Rattle.c65_agree_leave.specs.Laws.{params_in}
+use Rattle.c65_agree_enter.specs.Params.{ArePassed, AreDistinct}
+use Rattle.c65_agree_enter.specs.Entries.{HaveHomes, banks_with}
+use Rattle.c65_agree_enter.specs.Laws.{IsCalled, IsAtEntry, with_arriving}
 
 -- ---- the line
 
@@ -61,3 +75,73 @@ pub record IsMeant (u : UnitTy) (callee : Ty) (types : List Ty) (args : List Val
   pub once : has_fixed u body ≡ true → is_active f c.frames ≡ false
   pub begun : with_passed u func types args (new_frame u f (cost_of u types body) (turned c)) ≡ Ok c1
   pub shallow : c1.free ≡ false → is_deep c1.frames ≡ false
+
+-- ---- the function
+
+-- what holds of the call, whatever the machine leaves open: the scene and the state belong together, the called function's frame lies below
+-- what the outer function has there, and its costs leave room
+pub record MayCall (g : World) (outer a : Active) (frame : Frame) (passed cost needs : ℕ) (c : Scene) (w : Placing) (k : Banks) (t : State) : Type 0 where
+  pub joins : Joins g outer c w k t
+  pub within : sp_of t + passed ≤ outer.base
+  pub none_pushed : t.pushed ≡ []
+  pub behind : a.behind ≡ frame ∷ outer.behind
+  pub pushed : frame.pushed ≡ t.pushed
+  pub top : a.base + call_bytes a ≡ sp_of t + passed
+  pub called : IsCalled g a outer.base cost needs (params_in g a) c
+  pub plain : IsPlainFrame a.frame
+  pub none_raised : a.raised ≡ 0
+
+-- What stands of a call of a function that takes no further arguments, whether or not its step is defined: it may still be too deep, or
+-- begin an object again that has one place.
+pub record CallStands (g : World) (outer a : Active) (frame : Frame) (passed needs : ℕ) (func : FuncTy) (body : Stmt) (types : List Ty) (c : Scene) (w : Placing) (k : Banks) (t : State) : Type 0 where
+  pub joins : Joins g outer c w k t
+  pub within : sp_of t + passed ≤ outer.base
+  pub none_pushed : t.pushed ≡ []
+  pub behind : a.behind ≡ frame ∷ outer.behind
+  pub pushed : frame.pushed ≡ t.pushed
+  pub top : a.base + call_bytes a ≡ sp_of t + passed
+  pub plain : IsPlainFrame a.frame
+  pub none_raised : a.raised ≡ 0
+  pub is_function : slice_get (unit_in g).funcs a.func ≡ Some func
+  pub has_body : func.body ≡ Some body
+  pub all_named : is_variadic func.ty ≡ false
+  pub calls : a.calls ≡ c.frames
+  pub first : a.first ≡ c.next
+  pub homes : HaveHomes g a (params_in g a)
+  pub distinct : AreDistinct (params_in g a)
+  pub room : stack_end + 8 * needs + a.spare ≤ a.base + (cost_of (unit_in g) types body + soft_sum c.frames)
+
+-- the lines of the function: its entry, and its end at label 0
+pub record HasEnds (g : World) (a : Active) (e : ℕ) : Type 0 where
+  pub single : IsPlaced (lines_of g a)
+  pub entry : HasAt (lines_of g a) 0 (entry_code a.frame)
+  pub end : HasAt (lines_of g a) e (Label 0 ∷ end_code a.frame)
+
+-- each argument lies where its parameter's home is, or arrives in registers where it is put there
+pub record HasPassed (g : World) (a : Active) (args : List Value) (w : Placing) (k : Banks) (t : State) : Type 0 where
+  pub stacked : a.base + (a.frame.soft + (saved_bytes a.frame.bank + length (arriving a.frame.last t))) ≡ sp_of t
+  pub few : length (arriving a.frame.last t) ≤ a.frame.stacked
+  pub lies : ArePassed (unit_in g) w (with_arriving a t) (banks_with a t k) (spot_of g a) (params_in g a) args
+
+-- From the first statement on, where the blocks that begin are the call's own, the lines do the work of the body, for up to n steps, where
+-- the function's end is followed within this weight.
+abbrev pub BodyDoes : World → Active → ℕ → Stmt → Shape → List Item → List Value → ℕ → ℕ → Type 0
+BodyDoes g a needs body result below vs n v = (c : Scene) (q : Placing) (b : Banks) (t : State) (seen : Seen)
+    → a.first ≤ c.next → Between g a needs (params_in g a) c q b t → HasTurns g c.turns (place_in g a (length (entry_code a.frame))) seen
+    → ReturnLeads g a needs c q b t (params_in g a) result below vs n v
+    → Follows g n v (Running (plan_stmt (unit_in g) 0 body (Leave ∷ below)) vs c) (place_in g a (length (entry_code a.frame))) t seen
+
+-- Behind the call the outer function goes on. The value stood in the primary register before the function's end, and what of it both the
+-- call and the function give is there still.
+pub record HasReturned (g : World) (outer a : Active) (frame : Frame) (passed : ℕ) (result : Shape) (c0 : Scene) (w0 : Placing) (k0 : Banks) (t0 : State) (v : Value) (c2 : Scene) (w : Placing) (k : Banks) (u : State) : Type 0 where
+  pub behind : IsBehind g outer passed c0 w0 k0 t0 c2 w k u
+  pub fits : MayFit Valued result v
+  pub last : State
+  pub value : ResultIs Valued w (width_in result) v last
+  pub given : (part : Part) → IsPrimary part → IsTrue (has_part (common_of frame.gives ((setting_in g).gives a.symbol)) part) → Same part last u
+
+-- there the rest is followed, the value waiting
+abbrev pub GoesOnBehind : World → Active → Active → Frame → ℕ → Shape → List Item → List Value → ℕ → ℕ → Scene → Placing → Banks → State → Type 0
+GoesOnBehind g outer a frame passed result below vs n weight c0 w0 k0 t0 = (j : ℕ) (v : Value) (c2 : Scene) (w : Placing) (k : Banks) (u : State) (later : Seen)
+    → j < n → HasReturned g outer a frame passed result c0 w0 k0 t0 v c2 w k u → HasTurns g c2.turns frame.back later
+    → Follows g j weight (Running below (v ∷ vs) c2) frame.back u later

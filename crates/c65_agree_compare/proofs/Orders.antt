@@ -1,12 +1,11 @@
 -- Orders of AX and a word without sign that is read where it lies.
-use Rattle.std.proofs.Common.{◌≡◌, ℕ, ◌+◌, ◌-◌, ◌*◌, ◌%◌, ◌<◌, ◌≤◌, List, [], ◌∷◌, ◌++◌, Bool, true, false, refl, sym, ap, ◌∙◌, subst, arith}
-use Rattle.std.specs.Prelude.{not, nat_lt, nat_le, bit_and, bit_xor}
+use Rattle.std.proofs.Common.{◌≡◌, ℕ, ◌+◌, ◌-◌, ◌*◌, ◌%◌, ◌<◌, ◌≤◌, [], ◌∷◌, ◌++◌, Bool, true, false, refl, sym, ap, ◌∙◌, subst, arith}
+use Rattle.std.specs.Prelude.{nat_lt, nat_le, bit_and, bit_xor}
 use Rattle.std.proofs.lemmas.Bool.{ltb-true, ltb-false}
 use Rattle.std.proofs.lemmas.Bool.Decides.{nat_tests}
 use Rattle.c65_mach.specs.State.{Regs}
 use Rattle.c65_mach.specs.Step.{apply, bit, negative, is_not, is_taken}
 use Rattle.c65_mach.specs.declared.rows.Op.TheVariants.{Clc, Cmp, Sbc, Txa}
-use Rattle.c65_code.specs.declared.line.Line.{Line}
 use Rattle.c65_code.specs.declared.line.Line.TheVariants.{Label}
 use Rattle.c65_code.specs.LineState.{State, IsBytes}
 use Rattle.c65_code.specs.Placement.{IsPlacement}
@@ -44,6 +43,34 @@ begins r a l = nat_lt l (a + 1)
 abbrev pub carried : Relation → ℕ → ℕ → ℕ → ℕ → Bool
 carried r a x l h = nat_lt 255 (x + (255 - h) + bit (begins r a l))
 
+-- what such a carry says of both numbers: that the first one is not below the second one, or is above it
+abbrev pub carries : Relation → ℕ → ℕ → Bool
+carries Greater m n = nat_lt n m
+carries NotGreater m n = nat_lt n m
+carries r m n = nat_le n m
+
+less_not : (m n : ℕ) → is_not (nat_le n m) ≡ nat_lt m n
+less_not m n = go (nat_le n m) refl
+  where
+    go : (b : Bool) → nat_le n m ≡ b → is_not b ≡ nat_lt m n
+    go true e = grind (arith, nat_tests)
+    go false e = grind (arith, nat_tests)
+
+greater_not : (m n : ℕ) → is_not (nat_lt n m) ≡ nat_le m n
+greater_not m n = go (nat_lt n m) refl
+  where
+    go : (b : Bool) → nat_lt n m ≡ b → is_not b ≡ nat_le m n
+    go true e = grind (arith, nat_tests)
+    go false e = grind (arith, nat_tests)
+
+pub carries_tell : (r : Relation) (m n : ℕ) → IsOrder r → (s : Regs) → s.c ≡ carries r m n → is_taken (by_carry r) s ≡ holds r m n
+carries_tell Less m n o s e = ap is_not e ∙ less_not m n
+carries_tell NotLess m n o s e = e
+carries_tell Greater m n o s e = e
+carries_tell NotGreater m n o s e = ap is_not e ∙ greater_not m n
+carries_tell Equal m n o s e = absurd o
+carries_tell Unequal m n o s e = absurd o
+
 module _ (a x l h : ℕ) (a_byte : a < 256) (x_byte : x < 256) (l_byte : l < 256) (h_byte : h < 256) where
   abbrev m : ℕ
   m = a + 256 * x
@@ -65,27 +92,16 @@ module _ (a x l h : ℕ) (a_byte : a < 256) (x_byte : x < 256) (l_byte : l < 256
       go true e = let f : 255 < a + (255 - l) + 0 = ltb-true 255 (a + (255 - l) + 0) e in grind (arith, nat_tests)
       go false e = let f : a + (255 - l) + 0 ≤ 255 = ltb-false 255 (a + (255 - l) + 0) e in grind (arith, nat_tests)
 
-  less_not : is_not (nat_le n m) ≡ nat_lt m n
-  less_not = go (nat_le n m) refl
-    where
-      go : (b : Bool) → nat_le n m ≡ b → is_not b ≡ nat_lt m n
-      go true e = grind (arith, nat_tests)
-      go false e = grind (arith, nat_tests)
-
-  greater_not : is_not (nat_lt n m) ≡ nat_le m n
-  greater_not = go (nat_lt n m) refl
-    where
-      go : (b : Bool) → nat_lt n m ≡ b → is_not b ≡ nat_le m n
-      go true e = grind (arith, nat_tests)
-      go false e = grind (arith, nat_tests)
+  pub carried_is : (r : Relation) → IsOrder r → carried r a x l h ≡ carries r m n
+  carried_is Less o = plain
+  carried_is NotLess o = plain
+  carried_is Greater o = strict
+  carried_is NotGreater o = strict
+  carried_is Equal o = absurd o
+  carried_is Unequal o = absurd o
 
   pub carry_tells : (r : Relation) → IsOrder r → (s : Regs) → s.c ≡ carried r a x l h → is_taken (by_carry r) s ≡ holds r m n
-  carry_tells Less o s e = ap is_not (e ∙ plain) ∙ less_not
-  carry_tells NotLess o s e = e ∙ plain
-  carry_tells Greater o s e = e ∙ strict
-  carry_tells NotGreater o s e = ap is_not (e ∙ strict) ∙ greater_not
-  carry_tells Equal o s e = absurd o
-  carry_tells Unequal o s e = absurd o
+  carry_tells r o s e = carries_tell r m n o s (e ∙ carried_is r o)
 
 -- registers alone are others, with such a carry
 pub record HasCarry (t : State) (x : ℕ) (carry : Bool) (u : State) : Type 0 where
@@ -104,13 +120,37 @@ last_byte x h c = (x + (255 - h) + bit c) % 256
 abbrev pub overflows : ℕ → ℕ → Bool → Bool
 overflows x h c = negative (bit_and (bit_xor x (last_byte x h c)) (bit_xor (255 - h) (last_byte x h c)))
 
--- registers alone are others, and A and the flags those of the difference of AX and a word
-pub record IsDifference (r : Relation) (l h : ℕ) (t u : State) : Type 0 where
+-- registers alone are others, and A and the flags those of the difference of two bytes behind such a carry
+pub record IsByteDifference (x h : ℕ) (carry : Bool) (t u : State) : Type 0 where
   pub only : OnlyRegs t u
-  pub c : u.regs.c ≡ carried r t.regs.a t.regs.x l h
-  pub a : u.regs.a ≡ last_byte t.regs.x h (begins r t.regs.a l)
-  pub n : u.regs.n ≡ negative (last_byte t.regs.x h (begins r t.regs.a l))
-  pub v : u.regs.v ≡ overflows t.regs.x h (begins r t.regs.a l)
+  pub c : u.regs.c ≡ nat_lt 255 (x + (255 - h) + bit carry)
+  pub a : u.regs.a ≡ last_byte x h carry
+  pub n : u.regs.n ≡ negative (last_byte x h carry)
+  pub v : u.regs.v ≡ overflows x h carry
+
+-- of AX and a word
+abbrev pub IsDifference : Relation → ℕ → ℕ → State → State → Type 0
+IsDifference r l h t = IsByteDifference t.regs.x h (begins r t.regs.a l) t
+
+-- ---- the branch by the carry, behind lines that leave all but registers
+
+module _ (g : World) (a : Active) (t : State) (on_place : IsPlacement g.code g.place) (on : IsOn g t) (to label : ℕ) where
+  formed : (r : Relation) → form_of (branch (by_carry r) to) ≡ Branch (by_carry r) to
+  formed Less = refl
+  formed NotGreater = refl
+  formed NotLess = refl
+  formed Greater = refl
+  formed Equal = refl
+  formed Unequal = refl
+
+  pub carry_leads : (r : Relation) (y : Bool) (u : State) → OnlyRegs t u → is_taken (by_carry r) u.regs ≡ y → LeadsBy g a (order_code r false label to) 2 to y u (OnlyRegs t)
+  carry_leads r y u only is =
+      by_then g a (Label label ∷ []) (branch (by_carry r) to ∷ []) 0 2 to y u (λ v. v ≡ u) (OnlyRegs t) (label_leads g a label u (λ v. v ≡ u) refl) (λ v same.
+      subst (λ z. LeadsBy g a (branch (by_carry r) to ∷ []) 2 to y z (OnlyRegs t)) (sym same)
+      (λ n w p turns q seen has turned k.
+      branch_by g a (by_carry r) to (formed r) u (subst (IsOn g) (sym only.0) (on_regs g a t on_place on u.regs (subst IsBytes only.0 only.1))) y is n w p turns q seen has turned (λ x later e come. k x later (subst (OnlyRegs t) (sym e) only) come)))
+
+-- ---- a difference
 
 module _ (g : World) (a : Active) (t : State) (on_place : IsPlacement g.code g.place) (on : IsOn g t) (to label : ℕ) (low high : OperandByte) (may : MayRead g t low) (may2 : MayRead g t high) (small : byte_in g t low < 256) (small2 : byte_in g t high < 256) where
   abbrev AfterLow : Relation → State → Type 0
@@ -167,20 +207,9 @@ module _ (g : World) (a : Active) (t : State) (on_place : IsPlacement g.code g.p
   abbrev right_word : ℕ
   right_word = byte_in g t low + 256 * byte_in g t high
 
-  formed : (r : Relation) → form_of (branch (by_carry r) to) ≡ Branch (by_carry r) to
-  formed Less = refl
-  formed NotGreater = refl
-  formed NotLess = refl
-  formed Greater = refl
-  formed Equal = refl
-  formed Unequal = refl
-
   -- the lines of an order without sign
   pub order_leads : (r : Relation) (y : Bool) → IsOrder r → holds r left_word right_word ≡ y → LeadsBy g a (difference_code r (Word low high) ++ order_code r false label to) 8 to y t (OnlyRegs t)
   order_leads r y o is =
       by_then g a (difference_code r (Word low high)) (Label label ∷ branch (by_carry r) to ∷ []) 6 2 to y t (AfterHigh r) (OnlyRegs t) (difference_leads r o) (λ u h.
-      by_then g a (Label label ∷ []) (branch (by_carry r) to ∷ []) 0 2 to y u (λ v. v ≡ u) (OnlyRegs t) (label_leads g a label u (λ v. v ≡ u) refl) (λ v same.
-      subst (λ z. LeadsBy g a (branch (by_carry r) to ∷ []) 2 to y z (OnlyRegs t)) (sym same)
-      (λ n2 w p turns q seen has turned k.
-      branch_by g a (by_carry r) to (formed r) u (subst (IsOn g) (sym h.only.0) (on_regs g a t on_place on u.regs (subst IsBytes h.only.0 h.only.1))) y
-      (carry_tells t.regs.a t.regs.x (byte_in g t low) (byte_in g t high) on.stacks.calm.bytes.a on.stacks.calm.bytes.x small small2 r o u.regs h.c ∙ is) n2 w p turns q seen has turned (λ x later e come. k x later (subst (OnlyRegs t) (sym e) h.only) come))))
+      carry_leads g a t on_place on to label r y u h.only
+      (carry_tells t.regs.a t.regs.x (byte_in g t low) (byte_in g t high) on.stacks.calm.bytes.a on.stacks.calm.bytes.x small small2 r o u.regs h.c ∙ is))

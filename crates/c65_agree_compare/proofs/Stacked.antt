@@ -151,11 +151,11 @@ module _ (op : BinaryOp) (t : IntType) (p q z : ℤ) (y : Bool) (compares : is_c
 -- ---- behind the right side
 
 -- what waited is taken off, and A is 1 or 0
-record IsCompared (g : World) (a : Active) (pushed needs : ℕ) (c : Scene) (w : Placing) (k : Banks) (width : Width) (y : Bool) (t u : State) : Type 0 where
-  ready : Ready g a pushed needs c w k u
-  sp : sp_of u ≡ sp_of t + size_of width
-  mem : (m : ℕ) → sp_of t + size_of width ≤ m → IsFree c.store w (At m) → u.mem m ≡ t.mem m
-  z : u.regs.z ≡ not y
+pub record IsCompared (g : World) (a : Active) (pushed needs : ℕ) (c : Scene) (w : Placing) (k : Banks) (width : Width) (y : Bool) (t u : State) : Type 0 where
+  pub ready : Ready g a pushed needs c w k u
+  pub sp : sp_of u ≡ sp_of t + size_of width
+  pub mem : (m : ℕ) → sp_of t + size_of width ≤ m → IsFree c.store w (At m) → u.mem m ≡ t.mem m
+  pub z : u.regs.z ≡ not y
 
 module _ (g : World) (a : Active) (op : BinaryOp) (t : IntType) (pushed needs : ℕ) (placed : IsPlacement g.code g.place) (compares : is_comparison op ≡ true) (promoted : is_promoted t ≡ true) (c : Scene) (w : Placing) (k : Banks) (x : State)
     (ready : Ready g a (pushed + size_of (width_of t)) needs c w k x) (p q z : ℤ) (y : Bool) (there : number_at (width_of t) x.mem (sp_of x) ≡ word_of t p) (here : primary_of (width_of t) x ≡ word_of t q) (left : InRange t p) (right : InRange t q) (is : calculated op t p q ≡ Ok (Whole z)) (truth_is : z ≡ truth y) where
@@ -202,7 +202,7 @@ module _ (g : World) (a : Active) (op : BinaryOp) (t : IntType) (pushed needs : 
         })
         (implied_leads g a u placed (is_on g a pushed needs c w k u placed h.ready) Tay refl u.regs h.ready.joins.bytes)
 
-  back_leads : Leads g a back 2305 x (IsCompared g a pushed needs c w k (width_of t) y x)
+  pub back_leads : Leads g a back 2305 x (IsCompared g a pushed needs c w k (width_of t) y x)
   back_leads =
       leads_then g a (convert_code t t ++ wide_code op t) (implied Tay ∷ []) 2304 1 x (λ u. (s : State) × IsBrought g a c w k x (primary_of (width_of t)) (converted_word t t (word_of t q)) false s × IsReadyPopped g a pushed needs c w k routine (width_of t) (word_in y) s u) (IsCompared g a pushed needs c w k (width_of t) y x)
       (leads_then g a (convert_code t t) (wide_code op t) 256 2048 x (IsBrought g a c w k x (primary_of (width_of t)) (converted_word t t (word_of t q)) false) (λ u. (s : State) × IsBrought g a c w k x (primary_of (width_of t)) (converted_word t t (word_of t q)) false s × IsReadyPopped g a pushed needs c w k routine (width_of t) (word_in y) s u)

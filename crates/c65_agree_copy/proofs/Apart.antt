@@ -30,12 +30,12 @@ use Rattle.c65_agree_copy.proofs.Runs.{all_both}
 
 -- ---- bytes that are copied one behind another
 
-copied_other : (n to from : ℕ) (m : Bytes) (q : ℕ) → ((i : ℕ) → i < n → to + i ≡ q → ⊥) → written m (copied n to from m) q ≡ m q
+pub copied_other : (n to from : ℕ) (m : Bytes) (q : ℕ) → ((i : ℕ) → i < n → to + i ≡ q → ⊥) → written m (copied n to from m) q ≡ m q
 copied_other zero to from m q h = refl
 copied_other (suc n) to from m q h =
     copied_other n (to + 1) (from + 1) (write m to (m from)) q (λ i lt e. h (suc i) (omega (arith, lt)) (omega (arith, e))) ∙ write_other m to (m from) q (λ e. h 0 (omega arith) (omega (arith, e)))
 
-copied_at : (n to from : ℕ) (m : Bytes) → ((i j : ℕ) → i < n → j < n → from + i ≡ to + j → ⊥) → (i : ℕ) → i < n → written m (copied n to from m) (to + i) ≡ m (from + i)
+pub copied_at : (n to from : ℕ) (m : Bytes) → ((i j : ℕ) → i < n → j < n → from + i ≡ to + j → ⊥) → (i : ℕ) → i < n → written m (copied n to from m) (to + i) ≡ m (from + i)
 copied_at zero to from m h i lt = absurd (omega arith)
 copied_at (suc n) to from m h zero lt =
     let here : to + 0 ≡ to = omega arith in

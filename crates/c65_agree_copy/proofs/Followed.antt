@@ -1,5 +1,5 @@
 -- The lines of a copy, against the steps of the meaning.
-use Rattle.std.proofs.Common.{◌≡◌, ℕ, zero, suc, ◌+◌, ◌*◌, ◌<◌, ◌≤◌, ◌⊎◌, inl, inr, List, [], ◌∷◌, ◌++◌, Bool, true, false, refl, sym, ap, ◌∙◌, subst, arith}
+use Rattle.std.proofs.Common.{◌≡◌, ℕ, zero, suc, ◌+◌, ◌*◌, ◌<◌, ◌≤◌, ◌⊎◌, inl, inr, List, ◌∷◌, ◌++◌, Bool, true, false, refl, sym, ap, ◌∙◌, subst, arith, length-append}
 use Rattle.std.specs.Prelude.{length, nat_lt, if◌then◌else◌, Result, Ok, Err}
 use Rattle.c65_mach.specs.declared.rows.Op.TheVariants.{Tay, Tya, Lda, Sta}
 use Rattle.c65_mach.specs.declared.rows.Mode.TheVariants.{Implied, Immediate, ZeroPage}
@@ -35,7 +35,7 @@ use Rattle.c65_agree_numbers.proofs.Tests.{less, not_less}
 use Rattle.c65_agree_copy.specs.Copies.{carried_on, AreAtHand, IsCopied}
 use Rattle.c65_agree_copy.specs.Laws.{CopiesAreFollowed}
 use Rattle.c65_agree_copy.proofs.Bytes.{byte_is_carried}
-use Rattle.c65_agree_copy.proofs.Runs.{copies_run}
+use Rattle.c65_agree_copy.proofs.Runs.{copies_run, range_length}
 
 -- ---- the meaning
 
@@ -56,14 +56,6 @@ carried_turns size b o d p done (suc left) c c2 e = go (λ c1 h. carried_turns s
     go : ((c1 : Scene) → carried_on size (Place b o) (Place d p) (suc done) left c1 ≡ Ok c2 → c2.turns ≡ c1.turns) → (r : Result Scene Why) → carried_byte false done size c (Place b o) (Place d p) ≡ r → (r >>= λ x. carried_on size (Place b o) (Place d p) (suc done) left x) ≡ Ok c2 → c2.turns ≡ c.turns
     go deep (Err why) f h = cc
     go deep (Ok c1) f h = deep c1 h ∙ (byte_leaves size b o d p done c c1 f).turns
-
-range_length : (count at : ℕ) → length (range_of count at) ≡ count
-range_length zero at = refl
-range_length (suc count) at = let h = range_length count (at + 1) in omega (arith, h)
-
-length_both : (xs ys : List ℕ) → length (xs ++ ys) ≡ length xs + length ys
-length_both [] ys = omega arith
-length_both (x ∷ xs) ys = let h = length_both xs ys in omega (arith, h)
 
 -- The steps of a copy: the machine stands before its lines meanwhile, and each step earns.
 module _ (g : World) (a : Active) (pushed needs size b o d p : ℕ) (w : Placing) (banks : Banks) (c : Scene) (t : State) (v at : ℕ) (k : List Item) (vs : List Value) (seen : Seen) (r : Ready g a (pushed + 2) needs c w banks t) (turns : c.turns ≤ total_in g seen) where
@@ -244,7 +236,7 @@ module _ (g : World) (a : Active) (pushed needs size b o d p : ℕ) (c c2 : Scen
           behind u s7 (back u (copy.behind u meets bytes)) (carried_turns size b o d p 0 size c c2 done) h7))
         where
           lengths : (count to from : ℕ) → length (range_of count from ++ range_of count to) ≡ 2 * count
-          lengths count to from = let h = length_both (range_of count from) (range_of count to) in omega (arith, h, range_length count from, range_length count to)
+          lengths count to from = omega (arith, length-append (range_of count from) (range_of count to), range_length count from, range_length count to)
 
           cost_is : row_cost (row_of CopyTos (with_both regs6 zp5)) + (v + 2600) ≤ v + 2600 + (256 + 128 * size)
           cost_is = let h = lengths (zp5 12 + 256 * zp5 13) (word_at t.mem (zp5 0 + 256 * zp5 1)) (ax_of (with_both regs6 zp5)) in omega (arith, h, count_is)

@@ -1,6 +1,6 @@
 -- The routine that copies.
-use Rattle.std.proofs.Common.{◌≡◌, ℕ, ◌+◌, ◌*◌, ◌/◌, ◌%◌, ◌<◌, ◌≤◌, ◌⊎◌, inl, inr, List, [], ◌∷◌, ◌++◌, refl, sym, ap, ◌∙◌, subst, arith}
-use Rattle.std.specs.Prelude.{min, max, All, drop, Ok}
+use Rattle.std.proofs.Common.{◌≡◌, ℕ, zero, suc, ◌+◌, ◌*◌, ◌/◌, ◌%◌, ◌<◌, ◌≤◌, ◌⊎◌, inl, inr, List, [], ◌∷◌, ◌++◌, refl, sym, ap, ◌∙◌, subst, arith}
+use Rattle.std.specs.Prelude.{min, max, All, length, drop, Ok}
 use Rattle.std.proofs.lemmas.List.Elements.{All-cons, All-head, All-tail}
 use Rattle.c65_meaning.specs.Store.{Place}
 use Rattle.c65_meaning.specs.State.{Scene, soft_sum}
@@ -27,6 +27,10 @@ use Rattle.c65_agree_copy.proofs.Bytes.{with_memory, GoesOn, IsWhole, all_bytes}
 pub all_both : (P : ℕ → Type 0) (xs ys : List ℕ) → All P xs → All P ys → All P (xs ++ ys)
 all_both P [] ys h k = k
 all_both P (x ∷ xs) ys h k = All-cons P x (xs ++ ys) (All-head P x xs h) (all_both P xs ys (All-tail P x xs h) k)
+
+pub range_length : (count at : ℕ) → length (range_of count at) ≡ count
+range_length zero at = refl
+range_length (suc count) at = let h = range_length count (at + 1) in omega (arith, h)
 
 module _ (g : World) (a : Active) (pushed needs size b o d p : ℕ) (c c2 : Scene) (w : Placing) (k : Banks) (t : State) (placed : IsPlacement g.code g.place) (r : Ready g a (pushed + 2) needs c w k t) (hand : AreAtHand w b o d p t) (count : t.zp 12 + 256 * t.zp 13 ≡ size) (e : carried_on size (Place b o) (Place d p) 0 size c ≡ Ok c2) where
   abbrev target : ℕ

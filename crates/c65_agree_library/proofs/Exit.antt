@@ -1,16 +1,15 @@
 -- The run ends.
-use Rattle.std.proofs.Common.{◌≡◌, ℕ, zero, suc, ◌+◌, ◌*◌, ◌<◌, ◌≤◌, inl, inr, List, [], ◌∷◌, ◌++◌, refl, sym, ap, ◌∙◌, subst, arith}
-use Rattle.std.specs.Prelude.{Ok, Some, None, All, length, max, min, reverse, slice_get}
+use Rattle.std.proofs.Common.{◌≡◌, ℕ, zero, suc, ◌+◌, ◌*◌, ◌≤◌, inl, List, [], ◌∷◌, refl, sym, ap, ◌∙◌, subst, arith}
+use Rattle.std.specs.Prelude.{Ok, Some, All, max, min}
 use Rattle.std.proofs.lemmas.List.Elements.{All-nil}
 use Rattle.c65_ints.specs.Ranges.{residue}
 use Rattle.c65_base.specs.declared.library.Library.TheVariants.{Exit}
-use Rattle.c65_meaning.specs.Store.{Cell, Value, Whole, Null, Place, Opaque, Cells, NoValue}
-use Rattle.c65_meaning.specs.Items.{Item}
-use Rattle.c65_meaning.specs.State.{Scene, Ended, Running}
+use Rattle.c65_meaning.specs.Store.{Value, Whole, Null, Place, Opaque, Cells, NoValue}
+use Rattle.c65_meaning.specs.State.{Scene, Ended}
 use Rattle.c65_meaning.specs.Library.{Effect, effect_of, ends}
 use Rattle.c65_meaning.specs.Step.{ended_or, steps}
 use Rattle.c65_code.specs.declared.routine.Routine.TheVariants as routines
-use Rattle.c65_code.specs.LineState.{Place as Spot, State, sp_of, s_of, ax_of, IsBytes}
+use Rattle.c65_code.specs.LineState.{Place as Spot, State, sp_of, IsBytes}
 use Rattle.c65_code.specs.Placement.{IsPlacement}
 use Rattle.c65_code.specs.Rows.{Row, Meets, row_by, costing, library_row}
 use Rattle.c65_code.specs.Steady.{IsOpen, IsCalm, HasRoom}
@@ -22,10 +21,10 @@ use Rattle.c65_agree_state.specs.Exprs.{Ready}
 use Rattle.c65_agree_state.specs.Laws.{HasStacks}
 use Rattle.c65_agree_state.proofs.Followed.{follows_weaken, arrivals_count, ready_is_calm}
 use Rattle.c65_agree_state.proofs.Scratch.{constants_are_low}
-use Rattle.c65_agree_rows.proofs.Quiet.{append_nothing, routines_are_followed}
+use Rattle.c65_agree_rows.proofs.Quiet.{append_nothing}
 use Rattle.c65_agree_library.specs.Calls.{ArePassed, waiting_from}
 use Rattle.c65_agree_library.specs.Laws.{ExitIsFollowed}
-use Rattle.c65_agree_library.proofs.Flow.{calls_earn}
+use Rattle.c65_agree_library.proofs.Flow.{calls_earn, lines_are_followed, refused, is_given}
 use Rattle.c65_agree_library.proofs.Putchar.{low_of}
 
 -- an end stays
@@ -59,18 +58,18 @@ exit_is_followed g a pushed needs c w banks t n v p i k args ws vs rest seen pla
     calls_earn g Exit args vs rest k c (place_in g a p) t seen (ready_is_calm g a (pushed + waiting_from args) needs c w banks t ready).calm ready.joins.output ready.joins.ended (omega (arith, turns)) i ws n v step (λ x e j lt. done args ready passed x e j)
   where
     done : (args : List Value) → Ready g a (pushed + waiting_from args) needs c w banks t → ArePassed w args t → (x : Effect) → effect_of c Exit args rest ≡ Ok x → (j : ℕ) → Follows g j (v + 4000 + 4000 * x.bytes) (ended_or k vs c x x.status) (place_in g a p) t seen
-    done [] r passed x e j = cc
-    done (v1 ∷ v2 ∷ more) r passed x e j = cc
-    done (Null ∷ []) r passed x e j = cc
-    done (Place b o ∷ []) r passed x e j = cc
-    done (Opaque ∷ []) r passed x e j = cc
-    done (Cells xs ∷ []) r passed x e j = cc
-    done (NoValue ∷ []) r passed x e j = cc
+    done [] r passed x e j = refused e
+    done (v1 ∷ v2 ∷ more) r passed x e j = refused e
+    done (Null ∷ []) r passed x e j = refused e
+    done (Place b o ∷ []) r passed x e j = refused e
+    done (Opaque ∷ []) r passed x e j = refused e
+    done (Cells xs ∷ []) r passed x e j = refused e
+    done (NoValue ∷ []) r passed x e j = refused e
     done (Whole z ∷ []) r passed x e j =
-        let is : ends c (residue 256 z) ≡ x = cc in
+        let is : ends c (residue 256 z) ≡ x = is_given e in
         let same : t.regs.a ≡ residue 256 z = low_of t.regs.a t.regs.x z r.joins.bytes.a passed.0 in
         subst (λ y. Follows g j (v + 4000 + 4000 * y.bytes) (ended_or k vs c y y.status) (place_in g a p) t seen) is
-        (follows_weaken g j 256 (v + 4000 + 4000 * 0) (Ended c.out (residue 256 z) c.turns) (place_in g a p) t seen (omega arith)
-        (routines_are_followed g a (pushed + 0) needs c w banks t j 0 p (Ended c.out (residue 256 z) c.turns) seen (routines.Library Exit) r there (access g a pushed needs c w banks t placed r) (λ u meets bytes.
+        (follows_weaken g j 264 (v + 4000 + 4000 * 0) (Ended c.out (residue 256 z) c.turns) (place_in g a p) t seen (omega arith)
+        (lines_are_followed g a Exit p t (pushed + 0) needs c w banks placed r (access g a pushed needs c w banks t placed r) j 0 (Ended c.out (residue 256 z) c.turns) seen there (λ u meets bytes.
         ends_there g j 0 c.out (residue 256 z) c.turns (place_in g a (suc p)) u (seen_at (place_in g a (suc p)) seen) (meets.output ∙ append_nothing t.output ∙ r.joins.output) (meets.ended ∙ ap Some same)
         (let h = arrivals_count g c.turns (place_in g a (suc p)) seen (omega (arith, turns)) in omega (arith, h)) (calm g a pushed needs c w banks t placed r u meets bytes))))

@@ -1,16 +1,13 @@
 -- A character is read.
-use Rattle.std.proofs.Common.{◌≡◌, ℕ, ◌+◌, ◌*◌, ◌/◌, ◌%◌, ◌<◌, ◌≤◌, pos, negsuc, List, [], ◌∷◌, ◌++◌, refl, sym, ap, ◌∙◌, subst, arith}
-use Rattle.std.specs.Prelude.{Ok, Some, All, drop, reverse, max}
+use Rattle.std.proofs.Common.{◌≡◌, ℕ, ◌+◌, ◌/◌, ◌%◌, ◌<◌, List, [], ◌∷◌, refl, ap, ◌∙◌, subst, arith}
+use Rattle.std.specs.Prelude.{Some, All, drop, max}
 use Rattle.std.proofs.lemmas.Int.{ints}
 use Rattle.std.proofs.lemmas.List.Elements.{All-nil, All-head}
-use Rattle.c65_ints.specs.declared.types.IntType.TheVariants.{Int}
-use Rattle.c65_ints.specs.Ranges.{InRange}
 use Rattle.c65_base.specs.declared.library.Library.TheVariants.{Getchar}
-use Rattle.c65_meaning.specs.Store.{Cell, Value, Whole}
 use Rattle.c65_meaning.specs.State.{Scene}
-use Rattle.c65_meaning.specs.Library.{Effect, effect_of, got}
+use Rattle.c65_meaning.specs.Library.{got}
 use Rattle.c65_code.specs.declared.routine.Routine.TheVariants as routines
-use Rattle.c65_code.specs.LineState.{State, sp_of, ax_of, IsBytes}
+use Rattle.c65_code.specs.LineState.{State, sp_of, ax_of}
 use Rattle.c65_code.specs.Placement.{IsPlacement}
 use Rattle.c65_code.specs.Rows.{Row, row_by, costing, read_row}
 use Rattle.c65_code.specs.Steady.{IsOpen}
@@ -18,9 +15,8 @@ use Rattle.c65_agree_store.specs.Stands.{Placing, Banks}
 use Rattle.c65_agree_state.specs.World.{World, Active}
 use Rattle.c65_agree_state.specs.Exprs.{Ready}
 use Rattle.c65_agree_rows.proofs.Quiet.{append_nothing, silent_row}
-use Rattle.c65_agree_library.specs.Calls.{ArePassed, waiting_from}
 use Rattle.c65_agree_library.specs.Laws.{GetcharIsFollowed}
-use Rattle.c65_agree_library.proofs.Flow.{IsDone, EachIsDone, calls_are_followed}
+use Rattle.c65_agree_library.proofs.Flow.{IsDone, EachIsDone, calls_are_followed, refused, is_given}
 use Rattle.c65_agree_library.proofs.Stills.{IsStill, still_room, still_taken}
 use Rattle.c65_agree_library.proofs.Putchar.{byte_fits}
 
@@ -70,7 +66,7 @@ pub getchar_is_followed : GetcharIsFollowed
 getchar_is_followed = calls_are_followed Getchar done
   where
     done : EachIsDone Getchar
-    done g a pushed needs c w banks t (v ∷ more) rest x placed r passed e = cc
+    done g a pushed needs c w banks t (v ∷ more) rest x placed r passed e = refused e
     done g a pushed needs c w banks t [] rest x placed r passed e =
-        let is : got c c.input ≡ x = cc in
+        let is : got c c.input ≡ x = is_given e in
         subst (IsDone g a Getchar pushed needs 0 c w banks t) is (reads g a pushed needs c w banks t placed r c.input r.joins.input refl)

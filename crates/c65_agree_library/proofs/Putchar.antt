@@ -1,28 +1,26 @@
 -- A character is written.
-use Rattle.std.proofs.Common.{◌≡◌, ℕ, ◌+◌, ◌*◌, ◌/◌, ◌%◌, ◌<◌, ◌≤◌, ℤ, pos, negsuc, List, [], ◌∷◌, ◌++◌, refl, sym, ap, ◌∙◌, subst, arith}
-use Rattle.std.specs.Prelude.{Ok, reverse, max}
+use Rattle.std.proofs.Common.{◌≡◌, ℕ, ◌+◌, ◌*◌, ◌/◌, ◌%◌, ◌<◌, ℤ, pos, negsuc, List, [], ◌∷◌, ◌++◌, refl, ap, ◌∙◌, subst, arith}
+use Rattle.std.specs.Prelude.{max}
 use Rattle.std.proofs.lemmas.Int.{ints}
 use Rattle.std.proofs.lemmas.List.Elements.{All-nil}
 use Rattle.c65_ints.specs.declared.types.IntType.TheVariants.{Int}
 use Rattle.c65_ints.specs.Ranges.{residue, InRange}
 use Rattle.c65_base.specs.declared.library.Library.TheVariants.{Putchar}
-use Rattle.c65_meaning.specs.Store.{Cell, Value, Whole, Null, Place, Opaque, Cells, NoValue}
+use Rattle.c65_meaning.specs.Store.{Cell, Whole, Null, Place, Opaque, Cells, NoValue}
 use Rattle.c65_meaning.specs.State.{Scene}
-use Rattle.c65_meaning.specs.Library.{Effect, effect_of, writes_out}
+use Rattle.c65_meaning.specs.Library.{writes_out}
 use Rattle.c65_code.specs.declared.routine.Routine.TheVariants as routines
-use Rattle.c65_code.specs.LineState.{State, sp_of, ax_of, IsBytes}
+use Rattle.c65_code.specs.LineState.{State, sp_of, ax_of}
 use Rattle.c65_code.specs.Placement.{IsPlacement}
-use Rattle.c65_code.specs.Rows.{Row, row_by, costing, giving, library_row}
+use Rattle.c65_code.specs.Rows.{Row, row_by, costing, library_row}
 use Rattle.c65_code.specs.Steady.{IsOpen}
 use Rattle.c65_agree_store.specs.Stands.{Placing, Banks}
 use Rattle.c65_agree_state.specs.World.{World, Active}
 use Rattle.c65_agree_state.specs.Exprs.{Ready}
 use Rattle.c65_agree_numbers.proofs.Residues.{residue_below}
-use Rattle.c65_agree_rows.specs.Rows.{IsQuiet}
-use Rattle.c65_agree_rows.proofs.Quiet.{quiet_row, silent_row}
-use Rattle.c65_agree_library.specs.Calls.{ArePassed, waiting_from}
+use Rattle.c65_agree_rows.proofs.Quiet.{silent_row}
 use Rattle.c65_agree_library.specs.Laws.{PutcharIsFollowed}
-use Rattle.c65_agree_library.proofs.Flow.{IsDone, EachIsDone, calls_are_followed}
+use Rattle.c65_agree_library.proofs.Flow.{IsDone, EachIsDone, calls_are_followed, refused, is_given}
 use Rattle.c65_agree_library.proofs.Stills.{IsStill, still_room, still_taken}
 
 -- the low byte of a word
@@ -62,13 +60,13 @@ pub putchar_is_followed : PutcharIsFollowed
 putchar_is_followed = calls_are_followed Putchar done
   where
     done : EachIsDone Putchar
-    done g a pushed needs c w banks t [] rest x placed r passed e = cc
-    done g a pushed needs c w banks t (v ∷ v2 ∷ more) rest x placed r passed e = cc
-    done g a pushed needs c w banks t (Null ∷ []) rest x placed r passed e = cc
-    done g a pushed needs c w banks t (Place b o ∷ []) rest x placed r passed e = cc
-    done g a pushed needs c w banks t (Opaque ∷ []) rest x placed r passed e = cc
-    done g a pushed needs c w banks t (Cells xs ∷ []) rest x placed r passed e = cc
-    done g a pushed needs c w banks t (NoValue ∷ []) rest x placed r passed e = cc
+    done g a pushed needs c w banks t [] rest x placed r passed e = refused e
+    done g a pushed needs c w banks t (v ∷ v2 ∷ more) rest x placed r passed e = refused e
+    done g a pushed needs c w banks t (Null ∷ []) rest x placed r passed e = refused e
+    done g a pushed needs c w banks t (Place b o ∷ []) rest x placed r passed e = refused e
+    done g a pushed needs c w banks t (Opaque ∷ []) rest x placed r passed e = refused e
+    done g a pushed needs c w banks t (Cells xs ∷ []) rest x placed r passed e = refused e
+    done g a pushed needs c w banks t (NoValue ∷ []) rest x placed r passed e = refused e
     done g a pushed needs c w banks t (Whole z ∷ []) rest x placed r passed e =
-        let is : writes_out c 1 (residue 256 z ∷ []) (Whole (pos (residue 256 z))) ≡ x = cc in
+        let is : writes_out c 1 (residue 256 z ∷ []) (Whole (pos (residue 256 z))) ≡ x = is_given e in
         subst (IsDone g a Putchar pushed needs 0 c w banks t) is (writes g a pushed needs c w banks t rest placed z r passed.0)

@@ -1,11 +1,10 @@
 -- Routines of the library that write no byte of memory.
-use Rattle.std.proofs.Common.{◌≡◌, ℕ, ◌+◌, ◌*◌, ◌/◌, ◌%◌, ◌<◌, ◌≤◌, ◌⊎◌, inl, inr, List, [], ◌∷◌, ◌++◌, false, refl, sym, ap, ◌∙◌, arith}
-use Rattle.std.specs.Prelude.{drop, min, max, All, Some, None, true}
-use Rattle.std.proofs.lemmas.List.Elements.{All-nil}
+use Rattle.std.proofs.Common.{◌≡◌, ℕ, ◌+◌, ◌<◌, ◌≤◌, ◌⊎◌, inl, inr, List, [], false, refl, sym, ap, ◌∙◌, arith}
+use Rattle.std.specs.Prelude.{min, max, All, None, true}
 use Rattle.c65_meaning.specs.State.{Scene}
 use Rattle.c65_code.specs.declared.parts.Part.TheVariants.{Zp}
 use Rattle.c65_code.specs.Parts.{has_part}
-use Rattle.c65_code.specs.LineState.{State, sp_of, ax_of, IsBytes}
+use Rattle.c65_code.specs.LineState.{State, sp_of, IsBytes}
 use Rattle.c65_code.specs.Placement.{IsPlacement, stack_start}
 use Rattle.c65_code.specs.Texts.{range_of}
 use Rattle.c65_code.specs.Rows.{Row, Meets, written}

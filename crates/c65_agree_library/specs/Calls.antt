@@ -1,23 +1,26 @@
 -- A call of a function of the library: how its arguments wait, and what it leaves (C90 7.9.6, 7.9.7, 7.11).
-use Rattle.std.specs.Prelude.{◌≡◌, ℕ, suc, ◌+◌, ◌*◌, ◌<◌, List, [], ◌∷◌, Some, None, reverse, length, slice_get, take, All}
+use Rattle.std.specs.Prelude.{◌≡◌, ℕ, suc, ◌+◌, ◌*◌, ◌<◌, ◌⊎◌, List, [], ◌∷◌, Some, reverse, length, slice_get, All}
 use Rattle.c65_ints.specs.declared.types.IntType.TheVariants.{Int, UInt}
 use Rattle.c65_base.specs.declared.library.Library.{Library}
 use Rattle.c65_base.specs.declared.library.Library.TheVariants.{Memcpy, Memset, Strcpy, Strlen}
-use Rattle.c65_ctype.specs.Trees.{Ty}
-use Rattle.c65_csem.specs.Trees.{FuncTy}
-use Rattle.c65_meaning.specs.Store.{Cell, Value, Place, Number, Pointer}
+use Rattle.c65_meaning.specs.Store.{Cell, Value, Number, Pointer as Address}
 use Rattle.c65_meaning.specs.Fits.{Fits}
-use Rattle.c65_meaning.specs.Items.{Item, Invoke}
+use Rattle.c65_meaning.specs.Items.{Item}
 use Rattle.c65_meaning.specs.State.{Scene, Running}
-use Rattle.c65_meaning.specs.Step.{perform, provided, taken}
-use Rattle.c65_meaning.specs.Calls.{named_count}
+use Rattle.c65_meaning.specs.Step.{perform, provided}
+use Rattle.c65_code.specs.declared.line.Line.TheVariants.{Call}
+use Rattle.c65_code.specs.declared.line.Callee.TheVariants.{Pointer}
+use Rattle.c65_code.specs.declared.parts.RegSet.{RegSet}
 use Rattle.c65_code.specs.declared.routine.Routine.TheVariants as routines
+use Rattle.c65_code.specs.Parts.{union_of, IsWithin as AreAmong}
+use Rattle.c65_code.specs.Effects.{kept_at_calls, library_reads}
 use Rattle.c65_code.specs.LineState.{State, sp_of, ax_of, word_at}
 use Rattle.c65_code.specs.Placement.{IsPlacement}
+use Rattle.c65_code.specs.Moves.{IsCallee}
 use Rattle.c65_code.specs.Comes.{Seen}
 use Rattle.c65_genwide.specs.Lines.{call}
 use Rattle.c65_agree_store.specs.Stands.{Placing, Banks, ValueIs}
-use Rattle.c65_agree_state.specs.World.{World, Active, unit_in, program_in, lines_of, place_in, HasTurns}
+use Rattle.c65_agree_state.specs.World.{World, Active, program_in, setting_in, lines_of, place_in, HasTurns}
 use Rattle.c65_agree_state.specs.Follows.{Follows}
 use Rattle.c65_agree_state.specs.Exprs.{Ready}
 use Rattle.c65_agree_put.specs.Puts.{AreTaken}
@@ -46,9 +49,9 @@ waiting_from (v ∷ vs) = 2 * length vs
 
 -- a value of the type that the function's result has
 abbrev pub Gives : Library → Value → Type 0
-Gives Memcpy v = (size : ℕ) → Fits (Pointer size) v
-Gives Memset v = (size : ℕ) → Fits (Pointer size) v
-Gives Strcpy v = (size : ℕ) → Fits (Pointer size) v
+Gives Memcpy v = (size : ℕ) → Fits (Address size) v
+Gives Memset v = (size : ℕ) → Fits (Address size) v
+Gives Strcpy v = (size : ℕ) → Fits (Address size) v
 Gives Strlen v = Fits (Number UInt) v
 Gives f v = Fits (Number Int) v
 
@@ -60,23 +63,26 @@ pub record IsServed (g : World) (a : Active) (f : Library) (pushed needs count :
 
 -- ---- calls
 
--- Where the step of an item is the call of a function with these arguments, and they are passed at the line of its routine: what is
+-- A call through ptr4, which has the function's address, and passes what its routine reads.
+pub record IsPointedTo (g : World) (a : Active) (f : Library) (p : ℕ) (t : State) : Type 0 where
+  pub reads : RegSet
+  pub gives : RegSet
+  pub symbol : ℕ
+  pub there : slice_get (lines_of g a) p ≡ Some (Call (Pointer reads gives))
+  pub callee : IsCallee (setting_in g) t symbol
+  pub library : (setting_in g).library symbol ≡ Some f
+  pub passes : AreAmong (library_reads f) (union_of reads kept_at_calls)
+
+-- a line that calls the function: that of its routine, or one through a pointer
+abbrev pub IsLibraryCall : World → Active → Library → ℕ → State → Type 0
+IsLibraryCall g a f p t = (slice_get (lines_of g a) p ≡ Some (call (routines.Library f))) ⊎ IsPointedTo g a f p t
+
+-- Where the step of an item is the call of a function with these arguments, and they are passed at a line that calls it: what is
 -- followed behind that line goes on from before it.
 abbrev pub CallsAreFollowed : Library → Type 0
 CallsAreFollowed f = (g : World) (a : Active) (pushed needs : ℕ) (c : Scene) (w : Placing) (banks : Banks) (t : State) (n v p : ℕ) (i : Item) (k : List Item) (args ws vs : List Value) (rest : List Cell) (seen : Seen)
-    → IsPlacement g.code g.place → slice_get (lines_of g a) p ≡ Some (call (routines.Library f)) → Ready g a (pushed + waiting_from args) needs c w banks t → ArePassed w args t
+    → IsPlacement g.code g.place → IsLibraryCall g a f p t → Ready g a (pushed + waiting_from args) needs c w banks t → ArePassed w args t
     → HasTurns g c.turns (place_in g a p) seen → perform (program_in g) i k ws c ≡ provided f args rest k vs c
     → ((j : ℕ) (r : Value) (c2 : Scene) (u : State) (later : Seen) → j < n → IsServed g a f pushed needs (waiting_from args) c w banks t r c2 u → HasTurns g c2.turns (place_in g a (suc p)) later
     → Follows g j (v + 2600) (Running k (r ∷ vs) c2) (place_in g a (suc p)) u later)
     → Follows g n v (Running (i ∷ k) ws c) (place_in g a p) t seen
-
--- The same where the function is called by its name (C90 6.3.2.2): its arguments are those that it names, and a call that does not fit
--- the function has no meaning.
-abbrev pub NamedCallsAreFollowed : Library → Type 0
-NamedCallsAreFollowed f = (g : World) (a : Active) (pushed needs : ℕ) (c : Scene) (w : Placing) (banks : Banks) (t : State) (n v p h : ℕ) (callee : Ty) (types : List Ty) (entry : FuncTy) (k : List Item) (args ws vs : List Value) (seen : Seen)
-    → IsPlacement g.code g.place → slice_get (lines_of g a) p ≡ Some (call (routines.Library f))
-    → taken types [] ws ≡ Some (args, Place h 0 ∷ vs) → slice_get (unit_in g).funcs h ≡ Some entry → entry.body ≡ None → entry.library ≡ Some f
-    → Ready g a (pushed + waiting_from (take (named_count entry.ty) args)) needs c w banks t → ArePassed w (take (named_count entry.ty) args) t → HasTurns g c.turns (place_in g a p) seen
-    → ((j : ℕ) (r : Value) (c2 : Scene) (u : State) (later : Seen) → j < n → IsServed g a f pushed needs (waiting_from (take (named_count entry.ty) args)) c w banks t r c2 u → HasTurns g c2.turns (place_in g a (suc p)) later
-    → Follows g j (v + 2600) (Running k (r ∷ vs) c2) (place_in g a (suc p)) u later)
-    → Follows g n v (Running (Invoke callee types ∷ k) ws c) (place_in g a p) t seen

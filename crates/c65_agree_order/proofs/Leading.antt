@@ -1,4 +1,4 @@
--- Ways through the lines that compare AX with a word, or A with a byte.
+-- Ways through the lines that compare AX with a word, EAX with a long word, or A with a byte.
 use Rattle.std.proofs.Common.{◌≡◌, ℕ, ◌+◌, ◌-◌, ◌*◌, ◌<◌, ◌≤◌, List, [], ◌∷◌, ◌++◌, Bool, true, false, refl, sym, ap, ◌∙◌, subst, arith}
 use Rattle.std.specs.Prelude.{◌==◌, not, nat_lt, nat_le}
 use Rattle.std.proofs.lemmas.Bool.{ltb-true, ltb-false}
@@ -8,18 +8,19 @@ use Rattle.c65_mach.specs.Step.{is_not, is_taken}
 use Rattle.c65_mach.specs.declared.rows.Op.{Op}
 use Rattle.c65_mach.specs.declared.rows.Op.TheVariants.{Beq, Bne, Cmp}
 use Rattle.c65_code.specs.declared.line.Line.{Line}
-use Rattle.c65_code.specs.declared.routine.Width.TheVariants.{Ax}
-use Rattle.c65_code.specs.LineState.{State, IsBytes}
-use Rattle.c65_code.specs.Numbers.{turned}
+use Rattle.c65_code.specs.declared.routine.Width.{Width}
+use Rattle.c65_code.specs.declared.routine.Width.TheVariants.{Ax, Eax}
+use Rattle.c65_code.specs.LineState.{State, eax_of, IsBytes}
 use Rattle.c65_code.specs.Placement.{IsPlacement}
 use Rattle.c65_code.specs.Forms.{Branch, form_of}
 use Rattle.c65_genload.specs.Words.{branch}
 use Rattle.c65_gendirect.specs.declared.bytes.OperandByte.{OperandByte}
 use Rattle.c65_gendirect.specs.declared.relation.Relation.{Relation}
 use Rattle.c65_gendirect.specs.declared.relation.Relation.TheVariants.{Less, NotLess, Greater, NotGreater, Equal, Unequal}
-use Rattle.c65_gendirect.specs.declared.compare.Sides.TheVariants.{Word}
+use Rattle.c65_gendirect.specs.declared.compare.Sides.{Sides}
+use Rattle.c65_gendirect.specs.declared.compare.Sides.TheVariants.{Word, Long}
 use Rattle.c65_gendirect.specs.Bytes.{op_of}
-use Rattle.c65_gendirect.specs.Compare.{lowest_code, by_carry, compare_code, compare_byte_code}
+use Rattle.c65_gendirect.specs.Compare.{lowest_code, by_carry, ordered_code, compare_code, compare_byte_code}
 use Rattle.c65_agree_numbers.proofs.Tests.{equal, unequal}
 use Rattle.c65_agree_state.specs.World.{World, Active, lines_of, place_in, IsPlaced}
 use Rattle.c65_agree_state.proofs.Followed.{follows_weaken}
@@ -29,48 +30,61 @@ use Rattle.c65_agree_operate.proofs.Exact.{at_regs, To, on_byte, on_regs, operan
 use Rattle.c65_agree_compare.specs.Laws.{IsOrder}
 use Rattle.c65_agree_compare.proofs.Ways.{LeadsBy, by_then, branch_by}
 use Rattle.c65_agree_compare.proofs.Equal.{OnlyRegs, apart, same_bytes, other_bytes, equal_leads, other_leads}
-use Rattle.c65_agree_compare.proofs.Orders.{holds, begins, low_leads, HasCarry, order_leads}
-use Rattle.c65_agree_compare.proofs.Directs.{order_lines_are}
+use Rattle.c65_agree_compare.proofs.Orders.{holds, begins, low_leads, HasCarry}
 use Rattle.c65_agree_order.proofs.Tells.{tells}
-use Rattle.c65_agree_order.proofs.Signed.{signed_lines_lead}
+use Rattle.c65_agree_order.proofs.Signed.{Ordering, ordered_leads}
+use Rattle.c65_agree_order.proofs.Orderings.{MayReadLong, word_ordering, long_ordering}
+use Rattle.c65_agree_order.proofs.LongEqual.{equal_longs_lead, other_longs_lead}
 
 pub by_weaker : (g : World) (a : Active) (ls : List Line) (w x to : ℕ) (taken want : Bool) (t : State) (S : State → Type 0) → w ≤ x → taken ≡ want → LeadsBy g a ls w to taken t S → LeadsBy g a ls x to want t S
 by_weaker g a ls w x to taken want t S le same way n v p turns m seen has turned k =
     follows_weaken g n (w + v) (x + v) m (place_in g a p) t seen (omega (arith, le))
     (subst (λ y. LeadsBy g a ls w to y t S) same way n v p turns m seen has turned k)
 
-module _ (g : World) (a : Active) (t : State) (on_place : IsPlacement g.code g.place) (on : IsOn g t) (own : IsPlaced (lines_of g a)) (to label : ℕ) (low high : OperandByte) (may : MayRead g t low) (may2 : MayRead g t high) (small : byte_in g t low < 256) (small2 : byte_in g t high < 256) where
-  abbrev left_word : ℕ
-  left_word = t.regs.a + 256 * t.regs.x
+module _ (g : World) (a : Active) (t : State) (on_place : IsPlacement g.code g.place) (on : IsOn g t) (own : IsPlaced (lines_of g a)) (to label : ℕ) where
+  -- orders, from the differences of which they are
+  orders_lead : (width : Width) (sides : Sides) (m n : ℕ) → Ordering g a t width sides m n → (r : Relation) (sign y : Bool) → IsOrder r → tells r sign width m n ≡ y → LeadsBy g a (ordered_code r sign sides label to) 60 to y t (OnlyRegs t)
+  orders_lead width sides m n by_bytes r sign y o is =
+      by_weaker g a (ordered_code r sign sides label to) 26 60 to y y t (OnlyRegs t) (omega arith) refl
+      (ordered_leads g a t width sides m n by_bytes on_place on own to label r sign y o is)
 
-  abbrev right_word : ℕ
-  right_word = byte_in g t low + 256 * byte_in g t high
+  module _ (low high : OperandByte) (may : MayRead g t low) (may2 : MayRead g t high) (small : byte_in g t low < 256) (small2 : byte_in g t high < 256) where
+    abbrev left_word : ℕ
+    left_word = t.regs.a + 256 * t.regs.x
 
-  abbrev Goes : Relation → Bool → Bool → Type 0
-  Goes r sign y = LeadsBy g a (compare_code r sign (Word low high) label to) 60 to y t (OnlyRegs t)
+    abbrev right_word : ℕ
+    right_word = byte_in g t low + 256 * byte_in g t high
 
-  plain : (r : Relation) (y : Bool) → IsOrder r → holds r left_word right_word ≡ y → LeadsBy g a (compare_code r false (Word low high) label to) 60 to y t (OnlyRegs t)
-  plain r y o is =
-      by_weaker g a (compare_code r false (Word low high) label to) 8 60 to y y t (OnlyRegs t) (omega arith) refl
-      (subst (λ ls. LeadsBy g a ls 8 to y t (OnlyRegs t)) (sym (order_lines_are r low high label to o)) (order_leads g a t on_place on to label low high may may2 small small2 r y o is))
+    word_order : (r : Relation) (sign y : Bool) → IsOrder r → tells r sign Ax left_word right_word ≡ y → LeadsBy g a (ordered_code r sign (Word low high) label to) 60 to y t (OnlyRegs t)
+    word_order r sign y o is = orders_lead Ax (Word low high) left_word right_word (word_ordering g a t on_place on low high may may2 small small2) r sign y o is
 
-  signed : (r : Relation) (y : Bool) → IsOrder r → holds r (turned Ax left_word) (turned Ax right_word) ≡ y → Goes r true y
-  signed r y o is =
-      by_weaker g a (compare_code r true (Word low high) label to) 12 60 to y y t (OnlyRegs t) (omega arith) refl
-      (signed_lines_lead g a t on_place on own to label low high may may2 small small2 r y o is)
+    -- the lines go to the label where the words have the relation
+    pub word_leads : (r : Relation) (sign y : Bool) → tells r sign Ax left_word right_word ≡ y → LeadsBy g a (compare_code r sign (Word low high) label to) 60 to y t (OnlyRegs t)
+    word_leads Equal sign y is = by_weaker g a (compare_code Equal sign (Word low high) label to) 9 60 to y y t (OnlyRegs t) (omega arith) refl (equal_leads g a t on_place on own to label low high may may2 small small2 sign y is)
+    word_leads Unequal sign y is = by_weaker g a (compare_code Unequal sign (Word low high) label to) 9 60 to (not (left_word == right_word)) y t (OnlyRegs t) (omega arith) is (other_leads g a t on_place on own to label low high may may2 small small2 sign (left_word == right_word) refl)
+    word_leads Less sign y is = word_order Less sign y tt is
+    word_leads NotLess sign y is = word_order NotLess sign y tt is
+    word_leads Greater sign y is = word_order Greater sign y tt is
+    word_leads NotGreater sign y is = word_order NotGreater sign y tt is
 
-  -- the lines go to the label where the words have the relation
-  pub word_leads : (r : Relation) (sign y : Bool) → tells r sign Ax left_word right_word ≡ y → Goes r sign y
-  word_leads Equal sign y is = by_weaker g a (compare_code Equal sign (Word low high) label to) 9 60 to y y t (OnlyRegs t) (omega arith) refl (equal_leads g a t on_place on own to label low high may may2 small small2 sign y is)
-  word_leads Unequal sign y is = by_weaker g a (compare_code Unequal sign (Word low high) label to) 9 60 to (not (left_word == right_word)) y t (OnlyRegs t) (omega arith) is (other_leads g a t on_place on own to label low high may may2 small small2 sign (left_word == right_word) refl)
-  word_leads Less false y is = plain Less y tt is
-  word_leads NotLess false y is = plain NotLess y tt is
-  word_leads Greater false y is = plain Greater y tt is
-  word_leads NotGreater false y is = plain NotGreater y tt is
-  word_leads Less true y is = signed Less y tt is
-  word_leads NotLess true y is = signed NotLess y tt is
-  word_leads Greater true y is = signed Greater y tt is
-  word_leads NotGreater true y is = signed NotGreater y tt is
+  module _ (first second third fourth : OperandByte) (may : MayReadLong g t first second third fourth) where
+    abbrev left_long : ℕ
+    left_long = eax_of t
+
+    abbrev right_long : ℕ
+    right_long = byte_in g t first + 256 * byte_in g t second + 65536 * byte_in g t third + 16777216 * byte_in g t fourth
+
+    long_order : (r : Relation) (sign y : Bool) → IsOrder r → tells r sign Eax left_long right_long ≡ y → LeadsBy g a (ordered_code r sign (Long first second third fourth) label to) 60 to y t (OnlyRegs t)
+    long_order r sign y o is = orders_lead Eax (Long first second third fourth) left_long right_long (long_ordering g a t on_place on first second third fourth may) r sign y o is
+
+    -- the long words
+    pub long_leads : (r : Relation) (sign y : Bool) → tells r sign Eax left_long right_long ≡ y → LeadsBy g a (compare_code r sign (Long first second third fourth) label to) 60 to y t (OnlyRegs t)
+    long_leads Equal sign y is = by_weaker g a (compare_code Equal sign (Long first second third fourth) label to) 24 60 to y y t (OnlyRegs t) (omega arith) refl (equal_longs_lead g a t on_place on own to label first second third fourth may sign y is)
+    long_leads Unequal sign y is = by_weaker g a (compare_code Unequal sign (Long first second third fourth) label to) 24 60 to (not (left_long == right_long)) y t (OnlyRegs t) (omega arith) is (other_longs_lead g a t on_place on own to label first second third fourth may sign (left_long == right_long) refl)
+    long_leads Less sign y is = long_order Less sign y tt is
+    long_leads NotLess sign y is = long_order NotLess sign y tt is
+    long_leads Greater sign y is = long_order Greater sign y tt is
+    long_leads NotGreater sign y is = long_order NotGreater sign y tt is
 
 -- ---- a byte
 

@@ -1,6 +1,10 @@
 pub mod Tells
+pub mod Steps
 pub mod Signed
+pub mod Orderings
+pub mod LongEqual
 pub mod Leading
+pub mod Wholes
 pub mod Words
 pub mod Raised
 pub mod Lows
@@ -8,4 +12,9 @@ pub mod Bytes
 pub mod RaisedBytes
 pub mod ReadBytes
 pub mod LowSums
+pub mod PointerTells
+pub mod Pointers
+pub mod PointersHeld
+pub mod PointersStacked
+pub mod PointerNulls
 pub mod Lines

@@ -58,7 +58,7 @@ is_few x z range e = go (cases_lt (residue 256 z) 255)
 abbrev next_byte : ℤ → ℕ
 next_byte z = number_byte ((residue_of z + 1) % 4294967296) 0
 
-next_is : (z : ℤ) → residue 256 z < 255 → InRange UChar z → next_byte z ≡ next (residue 256 z)
+next_is : (z : ℤ) → residue 256 z < 255 → InRange UChar z → next_byte z ≡ next Ax (residue 256 z)
 next_is (pos n) h r = omega (arith, ints, r.high, h)
 next_is (negsuc n) h r = absurd (omega (arith, ints, r.low))
 
@@ -74,13 +74,13 @@ module _ (g : World) (a : Active) (op : BinaryOp) (r : Relation) (t : IntType) (
   leads : (x : Relation) → is_raised x UChar (directs.Number (residue_of z)) ≡ true → (c : Scene) (w : Placing) (b : Banks) (u : State) (m : ℤ) (y : Bool) → Ready g a pushed needs c w b u → u.regs.a ≡ residue 256 m → tells x false Ax (residue 256 m) (residue 256 z) ≡ y → LeadsBy g a (tail x) 60 to y u (OnlyRegs u)
   leads x up c w b u m y ready e h =
       let few : residue 256 z < 255 = is_few x z range up in
-      let is : next_byte z ≡ next (residue 256 z) = next_is z few range in
+      let is : next_byte z ≡ next Ax (residue 256 z) = next_is z few range in
       let small : next_byte z < 256 = omega (arith, is, few) in
       label_by g a (compare_byte_code (raised x) (operands.Number (next_byte z)) to) own 60 to y u (OnlyRegs u)
       (by_weaker g a (compare_byte_code (raised x) (operands.Number (next_byte z)) to) 5 60 to y y u (OnlyRegs u) (omega arith) refl
       (byte_leads g a u placed (is_on g a pushed needs c w b u placed ready) to (operands.Number (next_byte z)) small small (raised x) y
       (ap (λ i. tells (raised x) false Ax i (next_byte z)) e ∙ ap (tells (raised x) false Ax (residue 256 m)) is
-      ∙ next_tells x false UChar (residue_of z) (residue 256 m) (residue 256 z) up (omega (arith, few)) (omega (arith, few)) ∙ h)))
+      ∙ next_tells x false Ax UChar (residue_of z) (residue 256 m) (residue 256 z) up (omega (arith, few)) (omega (arith, few)) ∙ h)))
 
   -- what is read as the number has its low byte
   same : (v : Value) (q : ℤ) → v ≡ Whole q → ByteIs v (number_byte (residue_of z) 0) → residue 256 q ≡ residue 256 z

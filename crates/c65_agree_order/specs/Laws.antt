@@ -1,4 +1,4 @@
--- What the lines of comparisons of numbers do, where those of their sides do the work of these: of words, with sign or without, and of
+-- What the lines of comparisons of numbers and pointers do, where those of their sides do the work of these: of words and long words, with sign or without, and of
 -- bytes (C90 6.3.8, 6.3.9).
 use Rattle.std.specs.Prelude.{◌≡◌, ℕ, ◌+◌, ◌%◌, ◌≤◌, max, Bool, true, false, ℤ, List, ◌∷◌, ◌++◌, Option, Some, None}
 use Rattle.c65_base.specs.declared.operators.BinaryOp.{BinaryOp}
@@ -7,30 +7,34 @@ use Rattle.c65_ints.specs.declared.types.IntType.TheVariants.{UChar}
 use Rattle.c65_ints.specs.Ranges.{is_signed_of, InRange}
 use Rattle.c65_csem.specs.Places.{is_promoted}
 use Rattle.c65_meaning.specs.Store as values
-use Rattle.c65_meaning.specs.Store.{Number}
+use Rattle.c65_meaning.specs.Store.{Null, Number, Pointer}
 use Rattle.c65_ctype.specs.Trees.{int, QTy, type_in}
 use Rattle.c65_csem.specs.Trees.{Typed, node, convert, binary}
-use Rattle.c65_meaning.specs.Items.{Item, Change, Push}
+use Rattle.c65_meaning.specs.Items.{Item, Apply2, Change, Push}
 use Rattle.c65_code.specs.declared.line.Line.{Line}
 use Rattle.c65_code.specs.declared.line.Line.TheVariants.{Label}
-use Rattle.c65_code.specs.declared.routine.Width.TheVariants.{Ax}
+use Rattle.c65_code.specs.declared.routine.Width.TheVariants.{Ax, Eax}
 use Rattle.c65_code.specs.Placement.{IsPlacement}
 use Rattle.c65_genwide.specs.Wide.{width_of}
+use Rattle.c65_genload.specs.Conversions.{waiting}
 use Rattle.c65_genframe.specs.Frames.{Framed}
 use Rattle.c65_gendirect.specs.declared.bytes.OperandByte.{OperandByte}
 use Rattle.c65_gendirect.specs.declared.bytes.OperandByte.TheVariants as operands
 use Rattle.c65_gendirect.specs.declared.direct.Direct.{Direct}
 use Rattle.c65_gendirect.specs.declared.direct.Direct.TheVariants as directs
-use Rattle.c65_gendirect.specs.declared.compare.Sides.TheVariants.{Word}
+use Rattle.c65_gendirect.specs.declared.compare.Sides.{Sides}
+use Rattle.c65_gendirect.specs.declared.compare.Sides.TheVariants.{Word, Long}
 use Rattle.c65_gendirect.specs.declared.relation.Relation.{Relation}
 use Rattle.c65_gendirect.specs.Bytes.{op_of, byte_of, number_byte}
 use Rattle.c65_gendirect.specs.Words.{first_byte_code}
 use Rattle.c65_gendirect.specs.Compare.{relation_of, mirrored}
 use Rattle.c65_mach.specs.declared.rows.Op.TheVariants.{Lda}
 use Rattle.c65_genexpr.specs.declared.comparing.Side.TheVariants.{Left, Right}
-use Rattle.c65_genexpr.specs.declared.comparing.Comparing.TheVariants.{Byte, Whole, Held, HeldByte}
-use Rattle.c65_genexpr.specs.declared.operands.Operands.TheVariants.{Numbers}
+use Rattle.c65_genexpr.specs.declared.comparing.Comparing.TheVariants.{Byte, Whole, Held, HeldByte, Stacked}
+use Rattle.c65_genexpr.specs.declared.operands.Operands.{Operands}
+use Rattle.c65_genexpr.specs.declared.operands.Operands.TheVariants.{Numbers, Pointers}
 use Rattle.c65_genexpr.specs.Types.{bare}
+use Rattle.c65_genexpr.specs.Places.{more}
 use Rattle.c65_genexpr.specs.Operands.{residue_of}
 use Rattle.c65_genexpr.specs.Direct.{sides_of, keeps_byte}
 use Rattle.c65_genexpr.specs.Operating.{takes_bytes}
@@ -44,7 +48,9 @@ use Rattle.c65_agree_operate.specs.Manners.{Manner, DoesIn}
 use Rattle.c65_agree_operate.specs.Laws.{on_numbers}
 use Rattle.c65_agree_operate_bytes.specs.Laws.{IsReadBehind}
 use Rattle.c65_agree_compare.specs.Branches.{SettlesIn}
+use Rattle.c65_agree_compare.specs.Laws.{IsOrder}
 use Rattle.c65_agree_order.specs.Bytes.{Any, LowsIn, BytesIn, IsByteRead, IsByteBehind}
+use Rattle.c65_agree_order.specs.Pointers.{on_pointers, Asks, DoesSo, IsReadSo, IsReadBehindSo}
 
 -- ---- words
 
@@ -87,6 +93,40 @@ RaisedWordsBehindSettle = (g : World) (a : Active) (m : Manner) (pure : Bool) (o
     → (m.pure ≡ true → pure ≡ true) → IsReadBehind g a pure pushed (Number t) first (directs.Number (residue_of z))
     → DoesIn g a (record m { pure = pure }) Valued (Number t) second more_needs pushed right
     → SettlesIn g a m s to (on_numbers op t t first second) (max needs (1 + more_needs)) pushed (comparison_by (Whole Right (raised (mirrored (relation_by s r))) (is_signed_of t) (Word low high)) op (Numbers t) t s to own left right)
+
+-- ---- long words
+
+-- the left side is in EAX, and the right one is read where it lies
+abbrev pub LongsSettle : Type 0
+LongsSettle = (g : World) (a : Active) (m : Manner) (op : BinaryOp) (r : Relation) (t : IntType) (d : Direct) (one two three four : OperandByte) (s : Bool) (to own needs more_needs pushed : ℕ) (first second : List Item → List Item) (left right : List Line)
+    → IsPlacement g.code g.place → IsPlaced (lines_of g a) → relation_of op ≡ Some r → width_of t ≡ Eax → sides_of Eax d ≡ Some (Long one two three four)
+    → DoesIn g a m Valued (Number t) first needs pushed left → IsReadInPlace g a pushed (Number t) second d
+    → SettlesIn g a m s to (on_numbers op t t first second) (max needs (1 + more_needs)) pushed (comparison_by (Whole Left (relation_by s r) (is_signed_of t) (Long one two three four)) op (Numbers t) t s to own left right)
+
+-- the right side is in EAX, and the left one is read behind its lines
+abbrev pub LongsBehindSettle : Type 0
+LongsBehindSettle = (g : World) (a : Active) (m : Manner) (pure : Bool) (op : BinaryOp) (r : Relation) (t : IntType) (d : Direct) (one two three four : OperandByte) (s : Bool) (to own needs more_needs pushed : ℕ) (first second : List Item → List Item) (left right : List Line)
+    → IsPlacement g.code g.place → IsPlaced (lines_of g a) → relation_of op ≡ Some r → width_of t ≡ Eax → sides_of Eax d ≡ Some (Long one two three four)
+    → (m.pure ≡ true → pure ≡ true) → IsReadBehind g a pure pushed (Number t) first d
+    → DoesIn g a (record m { pure = pure }) Valued (Number t) second more_needs pushed right
+    → SettlesIn g a m s to (on_numbers op t t first second) (max needs (1 + more_needs)) pushed (comparison_by (Whole Right (mirrored (relation_by s r)) (is_signed_of t) (Long one two three four)) op (Numbers t) t s to own left right)
+
+-- ---- long words, of which one is a number that is taken one greater
+
+abbrev pub RaisedLongsSettle : Type 0
+RaisedLongsSettle = (g : World) (a : Active) (m : Manner) (op : BinaryOp) (r : Relation) (t : IntType) (z : ℤ) (one two three four : OperandByte) (s : Bool) (to own needs more_needs pushed : ℕ) (first second : List Item → List Item) (left right : List Line)
+    → IsPlacement g.code g.place → IsPlaced (lines_of g a) → relation_of op ≡ Some r → width_of t ≡ Eax → InRange t z
+    → is_raised (relation_by s r) t (directs.Number (residue_of z)) ≡ true → sides_of Eax (one_more (directs.Number (residue_of z))) ≡ Some (Long one two three four)
+    → DoesIn g a m Valued (Number t) first needs pushed left → IsReadInPlace g a pushed (Number t) second (directs.Number (residue_of z))
+    → SettlesIn g a m s to (on_numbers op t t first second) (max needs (1 + more_needs)) pushed (comparison_by (Whole Left (raised (relation_by s r)) (is_signed_of t) (Long one two three four)) op (Numbers t) t s to own left right)
+
+abbrev pub RaisedLongsBehindSettle : Type 0
+RaisedLongsBehindSettle = (g : World) (a : Active) (m : Manner) (pure : Bool) (op : BinaryOp) (r : Relation) (t : IntType) (z : ℤ) (one two three four : OperandByte) (s : Bool) (to own needs more_needs pushed : ℕ) (first second : List Item → List Item) (left right : List Line)
+    → IsPlacement g.code g.place → IsPlaced (lines_of g a) → relation_of op ≡ Some r → width_of t ≡ Eax → InRange t z
+    → is_raised (mirrored (relation_by s r)) t (directs.Number (residue_of z)) ≡ true → sides_of Eax (one_more (directs.Number (residue_of z))) ≡ Some (Long one two three four)
+    → (m.pure ≡ true → pure ≡ true) → IsReadBehind g a pure pushed (Number t) first (directs.Number (residue_of z))
+    → DoesIn g a (record m { pure = pure }) Valued (Number t) second more_needs pushed right
+    → SettlesIn g a m s to (on_numbers op t t first second) (max needs (1 + more_needs)) pushed (comparison_by (Whole Right (raised (mirrored (relation_by s r))) (is_signed_of t) (Long one two three four)) op (Numbers t) t s to own left right)
 
 -- ---- low bytes
 
@@ -186,6 +226,57 @@ RaisedBytesBehindSettle = (g : World) (a : Active) (m : Manner) (pure : Bool) (o
     → (m.pure ≡ true → pure ≡ true) → IsByteBehind g a pure pushed t first (operands.Number (number_byte (residue_of z) 0))
     → BytesIn g a (record m { pure = pure }) t second more_needs pushed (low_code low right)
     → SettlesIn g a m s to (on_numbers op t t first second) (max needs (1 + more_needs)) pushed (comparison_by (Byte Right low (raised (mirrored (relation_by s r))) (operands.Number (number_byte ((residue_of z + 1) % 4294967296) 0))) op (Numbers t) t s to own left right)
+
+-- ---- pointers
+
+-- an order asks nothing of the places: of what does a pointer's work, or is read as one
+abbrev pub OrdersAskNothing : Type 0
+OrdersAskNothing = (g : World) (a : Active) (m : Manner) (r : Relation) (size needs pushed : ℕ) (work : List Item → List Item) (lines : List Line) (d : Direct) (pure : Bool) → IsOrder r
+    → (DoesIn g a m Valued (Pointer size) work needs pushed lines → DoesSo g a m (Asks r) size work needs pushed lines)
+    × (IsReadInPlace g a pushed (Pointer size) work d → IsReadSo g a (Asks r) pushed size work d)
+    × (IsReadBehind g a pure pushed (Pointer size) work d → IsReadBehindSo g a pure (Asks r) pushed size work d)
+
+-- the left pointer is in AX, and the right one is read where it lies
+abbrev pub PointersSettle : Type 0
+PointersSettle = (g : World) (a : Active) (m : Manner) (op : BinaryOp) (r : Relation) (size other : ℕ) (d : Direct) (low high : OperandByte) (operands : Operands) (right_type : IntType) (s : Bool) (to own needs more_needs pushed : ℕ) (first second : List Item → List Item) (left right : List Line)
+    → IsPlacement g.code g.place → IsPlaced (lines_of g a) → relation_of op ≡ Some r → sides_of Ax d ≡ Some (Word low high)
+    → DoesSo g a m (Asks r) size first needs pushed left → IsReadSo g a (Asks r) pushed other second d
+    → SettlesIn g a m s to (on_pointers op size other first second) (max needs (1 + more_needs)) pushed (comparison_by (Whole Left (relation_by s r) false (Word low high)) op operands right_type s to own left right)
+
+-- the right pointer is in AX, and the left one is read behind its lines
+abbrev pub PointersBehindSettle : Type 0
+PointersBehindSettle = (g : World) (a : Active) (m : Manner) (pure : Bool) (op : BinaryOp) (r : Relation) (size other : ℕ) (d : Direct) (low high : OperandByte) (operands : Operands) (right_type : IntType) (s : Bool) (to own needs more_needs pushed : ℕ) (first second : List Item → List Item) (left right : List Line)
+    → IsPlacement g.code g.place → IsPlaced (lines_of g a) → relation_of op ≡ Some r → sides_of Ax d ≡ Some (Word low high)
+    → (m.pure ≡ true → pure ≡ true) → IsReadBehindSo g a pure (Asks r) pushed size first d
+    → DoesSo g a (record m { pure = pure }) (Asks r) other second more_needs pushed right
+    → SettlesIn g a m s to (on_pointers op size other first second) (max needs (1 + more_needs)) pushed (comparison_by (Whole Right (mirrored (relation_by s r)) false (Word low high)) op operands right_type s to own left right)
+
+-- the left pointer waits in ptr2 while the right one comes, whose lines are light
+abbrev pub HeldPointersSettle : Type 0
+HeldPointersSettle = (g : World) (a : Active) (m : Manner) (op : BinaryOp) (r : Relation) (size other : ℕ) (operands : Operands) (right_type : IntType) (s : Bool) (to own needs more_needs pushed : ℕ) (first second : List Item → List Item) (left right : List Line)
+    → IsPlacement g.code g.place → IsPlaced (lines_of g a) → m.light ≡ false → relation_of op ≡ Some r
+    → DoesSo g a m (Asks r) size first needs pushed left
+    → DoesSo g a (record m { light = true }) (Asks r) other second more_needs pushed right
+    → SettlesIn g a m s to (on_pointers op size other first second) (max needs (1 + more_needs)) pushed (comparison_by (Held (mirrored (relation_by s r)) false) op operands right_type s to own left right)
+
+-- by a routine: the left pointer waits on the software stack, and the right one is in AX
+abbrev pub StackedPointersSettle : Type 0
+StackedPointersSettle = (g : World) (a : Active) (m : Manner) (op : BinaryOp) (r : Relation) (size other count : ℕ) (right_type : IntType) (s : Bool) (to own needs more_needs pushed : ℕ) (first second : List Item → List Item) (left right : List Line)
+    → IsPlacement g.code g.place → m.light ≡ false → m.over ≤ 1000 → relation_of op ≡ Some r
+    → DoesSo g a m (Asks r) size first needs pushed left
+    → DoesSo g a m (Asks r) other second more_needs (more pushed (waiting Ax)) right
+    → SettlesIn g a m s to (on_pointers op size other first second) (max needs (1 + more_needs)) pushed (comparison_by Stacked op (Pointers count) right_type s to own left right)
+
+-- an order beside a null pointer has no meaning, whatever its lines are
+abbrev pub NullOrdersSettle : Type 0
+NullOrdersSettle = (g : World) (a : Active) (m : Manner) (op : BinaryOp) (r x : Relation) (size other : ℕ) (is_signed : Bool) (sides : Sides) (operands : Operands) (right_type : IntType) (s : Bool) (to own needs pushed : ℕ) (first : List Item → List Item) (left right : List Line)
+    → relation_of op ≡ Some r → IsOrder r → DoesIn g a m Valued (Pointer size) first needs pushed left
+    → SettlesIn g a m s to (λ k. first (Push Null ∷ Apply2 op (Pointer size) (Pointer other) ∷ k)) needs pushed (comparison_by (Whole Left x is_signed sides) op operands right_type s to own left right)
+
+abbrev pub NullOrdersBehindSettle : Type 0
+NullOrdersBehindSettle = (g : World) (a : Active) (m : Manner) (op : BinaryOp) (r x : Relation) (size other : ℕ) (is_signed : Bool) (sides : Sides) (operands : Operands) (right_type : IntType) (s : Bool) (to own needs pushed : ℕ) (second : List Item → List Item) (left right : List Line)
+    → relation_of op ≡ Some r → IsOrder r → DoesIn g a m Valued (Pointer other) second needs pushed right
+    → SettlesIn g a m s to (λ k. Push Null ∷ second (Apply2 op (Pointer size) (Pointer other) ∷ k)) needs pushed (comparison_by (Whole Right x is_signed sides) op operands right_type s to own left right)
 
 -- ---- the lines of the generator
 

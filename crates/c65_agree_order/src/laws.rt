@@ -1,5 +1,5 @@
 // Laws of the lines of comparisons of numbers, each the contract of a function that does nothing.
-ghost use Rattle.c65_agree_order.specs.Laws.{BytesBehindSettle, BytesSettle, CharsAreBytes, CharsAreRead, CharsAreReadBehind, ConstantsAreRead, ConstantsAreReadBehind, ConversionsKeepBytes, ConversionsKeepLows, HeldBytesSettle, HeldWordsSettle, LowConversionLinesAre, LowOperandsDo, LowOperatorLinesAre, RaisedBytesBehindSettle, RaisedBytesSettle, RaisedWordsBehindSettle, RaisedWordsSettle, ReadBytesCome, ReadsAreConverted, ReadsBehindAreConverted, ValuesAreLow, WordsBehindSettle, WordsSettle};
+ghost use Rattle.c65_agree_order.specs.Laws.{BytesBehindSettle, BytesSettle, CharsAreBytes, CharsAreRead, CharsAreReadBehind, ConstantsAreRead, ConstantsAreReadBehind, ConversionsKeepBytes, ConversionsKeepLows, HeldBytesSettle, HeldPointersSettle, HeldWordsSettle, LongsBehindSettle, LongsSettle, LowConversionLinesAre, LowOperandsDo, LowOperatorLinesAre, NullOrdersBehindSettle, NullOrdersSettle, OrdersAskNothing, PointersBehindSettle, PointersSettle, RaisedBytesBehindSettle, RaisedBytesSettle, RaisedLongsBehindSettle, RaisedLongsSettle, RaisedWordsBehindSettle, RaisedWordsSettle, ReadBytesCome, ReadsAreConverted, ReadsBehindAreConverted, StackedPointersSettle, ValuesAreLow, WordsBehindSettle, WordsSettle};
 
 /// The lines of a comparison of AX with a word that is read where it lies test its value, whatever the relation.
 pub fn words_settle()
@@ -24,6 +24,26 @@ pub fn raised_words_settle()
 /// So it may where AX is the right side.
 pub fn raised_words_behind_settle()
     ensures { RaisedWordsBehindSettle }
+{}
+
+/// The lines of a comparison of EAX with a long word that is read where it lies test its value, whatever the relation.
+pub fn longs_settle()
+    ensures { LongsSettle }
+{}
+
+/// So do those where EAX is the right side.
+pub fn longs_behind_settle()
+    ensures { LongsBehindSettle }
+{}
+
+/// A long number that is read may be taken one greater, where it is not the greatest of its type.
+pub fn raised_longs_settle()
+    ensures { RaisedLongsSettle }
+{}
+
+/// So it may where EAX is the right side.
+pub fn raised_longs_behind_settle()
+    ensures { RaisedLongsBehindSettle }
 {}
 
 /// The low byte of a value in its register is in A.
@@ -109,6 +129,41 @@ pub fn raised_bytes_settle()
 /// So it may where A is the right side.
 pub fn raised_bytes_behind_settle()
     ensures { RaisedBytesBehindSettle }
+{}
+
+/// An order asks nothing of the places that its pointers name.
+pub fn orders_ask_nothing()
+    ensures { OrdersAskNothing }
+{}
+
+/// The lines of a comparison of a pointer in AX with one that is read where it lies test its value.
+pub fn pointers_settle()
+    ensures { PointersSettle }
+{}
+
+/// So do those where AX is the right side.
+pub fn pointers_behind_settle()
+    ensures { PointersBehindSettle }
+{}
+
+/// And those where the left pointer waits in ptr2.
+pub fn held_pointers_settle()
+    ensures { HeldPointersSettle }
+{}
+
+/// And those where it waits on the software stack for a routine.
+pub fn stacked_pointers_settle()
+    ensures { StackedPointersSettle }
+{}
+
+/// An order of a pointer and a null pointer has no meaning.
+pub fn null_orders_settle()
+    ensures { NullOrdersSettle }
+{}
+
+/// Nor has one of a null pointer and a pointer.
+pub fn null_orders_behind_settle()
+    ensures { NullOrdersBehindSettle }
 {}
 
 /// The lines of the low byte of a converted number are those of the number's.

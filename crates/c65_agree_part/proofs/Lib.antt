@@ -1,2 +1,11 @@
+pub mod Lines
+pub mod Far
+pub mod Loops
+pub mod Where
 pub mod Begun
-pub mod SetNear
+pub mod Earned
+pub mod Bytes
+pub mod Cleared
+pub mod Carried
+pub mod Set
+pub mod Homes

@@ -3,4 +3,7 @@
 
 mod laws;
 
-pub use laws::{near_parts_are_set, values_are_begun};
+pub use laws::{
+    areas_are_begun, areas_are_in_memory, banks_hold_numbers, clears_do, objects_are_cleared,
+    objects_may_be_set, parts_are_set, values_are_begun, values_have_addresses,
+};

@@ -1,0 +1,6 @@
+//! A function of a program has its lines, and they do the work of its body.
+#![tactic(auto)]
+
+mod laws;
+
+pub use laws::{functions_do, functions_have_ends, mains_arguments_lie};

@@ -1,0 +1,5 @@
+pub mod Slots
+pub mod Turns
+pub mod Frames
+pub mod Work
+pub mod Laws

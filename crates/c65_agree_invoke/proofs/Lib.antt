@@ -1,0 +1,10 @@
+pub mod Accepted
+pub mod Calling
+pub mod Expressions
+pub mod Fetching
+pub mod Homes
+pub mod Named
+pub mod Pointers
+pub mod Results
+pub mod Stacked
+pub mod Taken

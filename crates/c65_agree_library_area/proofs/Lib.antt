@@ -1,0 +1,3 @@
+pub mod Memset
+pub mod Memcpy
+pub mod Strcpy

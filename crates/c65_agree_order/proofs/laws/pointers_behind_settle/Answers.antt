@@ -1,0 +1,5 @@
+use Rattle.c65_agree_order.proofs.Pointers.{pointers_behind_settle}
+use Rattle.c65_agree_order.proofs.laws.pointers_behind_settle.Goals as goal
+
+pub returns : goal.returns
+returns c = pointers_behind_settle

@@ -1,0 +1,14 @@
+pub mod Scratch
+pub mod Powers
+pub mod Once
+pub mod Turns
+pub mod Bytes
+pub mod Shifted
+pub mod Constants
+pub mod Does
+pub mod Shifts
+pub mod Masks
+pub mod LongBits
+pub mod Products
+pub mod Elements
+pub mod Lines
