@@ -129,9 +129,9 @@ in_one_block Eq size o p = test (o == p)
 in_one_block Ne size o p = test (not (o == p))
 in_one_block _ size o p = Err Unfit
 
--- one is the end of its block, and the other lies inside its own
+-- One is the end of its block, and the other lies inside its own. A place behind its block's end, which no operator gives, may meet any.
 abbrev pub end_meets : Store → ℕ → ℕ → ℕ → ℕ → Bool
-end_meets s b o c p = o == block_size s b && nat_lt p (block_size s c)
+end_meets s b o c p = nat_lt (block_size s b) o || (o == block_size s b && nat_lt p (block_size s c))
 
 -- only a block of further arguments has no bytes
 abbrev pub is_empty : Store → ℕ → Bool
