@@ -13,8 +13,8 @@ use Rattle.c65_ppline.specs.declared.directive.Deed.{Deed}
 use Rattle.c65_ppline.specs.declared.directive.Part.{Part}
 use Rattle.c65_ppline.specs.declared.line.Line.{Line}
 use Rattle.c65_ppline.specs.declared.numbering.Given.{Given}
-use Rattle.c65_ppdir.specs.declared.opened.Opened.{Opened}
-use Rattle.c65_ppdir.specs.declared.opened.Read.{Read}
+use Rattle.c65_ppdir.specs.Files.{OpenFile}
+use Rattle.c65_pptext.specs.declared.ending.Read.{Read}
 use Rattle.c65_ppdir.specs.declared.opened.Unseen.{Unseen}
 use Rattle.c65_ppdir.specs.declared.reader.Turn.{Turn}
 use Rattle.c65_ppdir.specs.declared.reader.Turn.TheVariants as turns
@@ -29,24 +29,24 @@ use Rattle.c65_ppdir.specs.Progress.{Progress, flushed, with_groups, read_next, 
 use Rattle.c65_ppline.specs.Relations.{Answers, of, just, ◌then◌, Comes}
 use Rattle.c65_ppline.proofs.Relations.{goes_on, is_free}
 
-abbrev pub behind : Progress → Opened → List (List ℕ) → Progress
+abbrev pub behind : Progress → OpenFile → List (List ℕ) → Progress
 behind p left known = record p { file = left; names = known }
 
-pub active_next : {X : Type 0} (view : X → Turn × Progress) (p : Progress) (r : Read) (left : Opened) (known : List (List ℕ)) (z : Result X Refusal)
+pub active_next : {X : Type 0} (view : X → Turn × Progress) (p : Progress) (r : Read) (left : OpenFile) (known : List (List ℕ)) (z : Result X Refusal)
     → IsReadNext false p.file p.names r left known → Comes view (active_by r (behind p left known)) z → Comes view (active p) z
 active_next view p r left known z h c = goes_on view (read_next false p) (λ x. active_by x.0 x.1) (r, behind p left known) z (left, known, h, refl) c
 
-pub inactive_next : {X : Type 0} (view : X → Turn × Progress) (p : Progress) (u : Unseen) (left : Opened) (z : Result X Refusal)
+pub inactive_next : {X : Type 0} (view : X → Turn × Progress) (p : Progress) (u : Unseen) (left : OpenFile) (z : Result X Refusal)
     → IsSeenNext p.file u left → Comes view (inactive_by u (behind p left p.names)) z → Comes view (inactive p) z
 inactive_next view p u left z h c = goes_on view (seen_next p) (λ x. inactive_by x.0 x.1) (u, behind p left p.names) z (left, h, refl) c
 
-pub directive_next : {X : Type 0} (view : X → Turn × Progress) (hash : Pos) (p : Progress) (line : Line) (left : Opened) (known : List (List ℕ)) (deed : Deed) (z : Result X Refusal)
+pub directive_next : {X : Type 0} (view : X → Turn × Progress) (hash : Pos) (p : Progress) (line : Line) (left : OpenFile) (known : List (List ℕ)) (deed : Deed) (z : Result X Refusal)
     → IsLineRead hash p.file p.names (gathering line left known) → deed ≡ deed_of hash (head_of known line.tokens) → Comes view (obeyed deed line (behind p left known)) z → Comes view (directive hash p) z
 directive_next view hash p line left known deed z h e c =
     goes_on view (line_read hash p) (λ x. obeyed (deed_of hash (head_of x.1.names x.0.tokens)) x.0 x.1) (line, behind p left known) z (gathering line left known, h, refl, refl)
     (subst (λ (d : Deed). Comes view (obeyed d line (behind p left known)) z) e c)
 
-pub passed_next : {X : Type 0} (view : X → Progress) (hash : Pos) (p : Progress) (line : Line) (left : Opened) (known : List (List ℕ)) (part : Option Part) (z : Result X Refusal)
+pub passed_next : {X : Type 0} (view : X → Progress) (hash : Pos) (p : Progress) (line : Line) (left : OpenFile) (known : List (List ℕ)) (part : Option Part) (z : Result X Refusal)
     → IsLineRead hash p.file p.names (gathering line left known) → part ≡ part_of (head_of known line.tokens) → Comes view (passed_by part line (behind p left known)) z → Comes view (passed hash p) z
 passed_next view hash p line left known part z h e c =
     goes_on view (line_read hash p) (λ x. passed_by (part_of (head_of x.1.names x.0.tokens)) x.0 x.1) (line, behind p left known) z (gathering line left known, h, refl, refl)
@@ -102,7 +102,7 @@ chosen_answer b p gs (Ok x) f h = ap (λ (q : Progress). Ok q) (choosing b p gs 
 chosen_answer b p gs (Err e) f h = inl (is_free e f)
 
 -- a file's lines are counted anew
-pub renumber_is : (table new : Table) (given given' list list' : List PpToken) (file : Opened) (names : List (List ℕ)) (g : Given) (line : Line) (literal : Name) → literal ≡ unwrap_or g.file file.literal → new ≡ record table { file = literal; offset = offset (record { given = g.number; real = line.end }) } → given' ≡ given → list' ≡ list
+pub renumber_is : (table new : Table) (given given' list list' : List PpToken) (file : OpenFile) (names : List (List ℕ)) (g : Given) (line : Line) (literal : Name) → literal ≡ unwrap_or g.file file.literal → new ≡ record table { file = literal; offset = offset (record { given = g.number; real = line.end }) } → given' ≡ given → list' ≡ list
     → (let p : Progress = record { table = new; given = given'; list = list'; file = record file { literal = literal; count = record { given = g.number; real = line.end } }; names = names } in p ≡ renumbered g line (record { table = table; given = given; list = list; file = file; names = names }))
 renumber_is table new given given' list list' file names g line literal a h e f =
     let counted : new ≡ record table { file = unwrap_or g.file file.literal; offset = offset (record { given = g.number; real = line.end }) } = h ∙ ap (λ (n : Name). record table { file = n; offset = offset (record { given = g.number; real = line.end }) }) a in

@@ -2,7 +2,7 @@ pub mod Reading
 pub mod Acting
 pub mod Standing
 pub mod Commands
-pub mod Openings
 pub mod Placeless
 pub mod Units
 pub mod Wholes
+pub mod Texts

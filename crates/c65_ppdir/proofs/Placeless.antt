@@ -1,6 +1,6 @@
 -- Refusals without a place, which stay as they are where a fault's file is told by its path.
 use Rattle.std.proofs.Common.{◌≡◌, ℕ, List, [], ◌∷◌, ◌++◌, length, Bool, true, false, ◌==◌, if◌then◌else◌, Option, Some, None, Ok, Err, inl, inr, refl}
-use Rattle.std.specs.Prelude.{⊤}
+use Rattle.std.specs.Prelude.{⊤, pos}
 use Rattle.c65_base.specs.declared.code.Code.{Code}
 use Rattle.c65_base.specs.declared.names.Name.{Name}
 use Rattle.c65_base.specs.declared.refusal.Pos.{Pos}
@@ -15,12 +15,12 @@ use Rattle.c65_ppfile.specs.declared.headers.BuiltIn.{BuiltIn}
 use Rattle.c65_ppfile.specs.declared.include.Header.{Header}
 use Rattle.c65_ppfile.specs.Finding.{first_held, header_of, path_at}
 use Rattle.c65_ppfile.specs.Headers.{path_of, text_behind}
+use Rattle.c65_ppdir.specs.Files.{OpenFile}
 use Rattle.c65_ppdir.specs.Opening.{opened}
 use Rattle.c65_ppline.specs.Relations.{Answers, just, by_test, ◌then◌, IsFree}
 use Rattle.c65_ppfile.specs.Search.{paths_of}
 use Rattle.c65_ppdir.specs.Standing.{Standing, inner, learned, literal_of, opening, has_room, first_standing}
 use Rattle.c65_ppdir.specs.Units.{Surroundings, Reached, Source, file, built_in, or_built_in, source_of, with_path, opening_file, with_built_in, entering, with_room, including, located, main_of, begun, first_reached}
-use Rattle.c65_ppdir.proofs.Openings.{first}
 
 abbrev pub IsPlaceless : Refusal → Type 0
 IsPlaceless (refusals.At code place) = ⊥
@@ -99,6 +99,9 @@ main_place path (Some bytes) code place h = cc
 main_placeless : (path : List ℕ) (o : Option (List ℕ)) (e : Refusal) → just (main_of path o) (Err e) → IsPlaceless e
 main_placeless path o (refusals.At code place) h = main_place path o code place h
 main_placeless path o _ h = tt
+
+abbrev first : Table → Name → List (List ℕ) → OpenFile → Standing
+first table name names f = record { here = record { table = record table { file = name; offset = pos 0 }; given = []; list = []; file = f; names = names }; outer = []; headers = [] }
 
 first_placeless : (table : Table) (path bytes : List ℕ) (names : List (List ℕ)) (e : Refusal) → first_standing table path bytes names (Err e) → IsPlaceless e
 first_placeless table path bytes names e h = behind_placeless (learned names (literal_of path)) (λ x. first table x.0 x.1 (opened 0 x.0 bytes)) (learned_placeless names (literal_of path)) e h

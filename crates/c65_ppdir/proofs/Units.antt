@@ -1,6 +1,6 @@
 -- A unit, file by file and line by line.
-use Rattle.std.proofs.Common.{◌≡◌, ◌∙◌, ◌⊎◌, ℕ, suc, List, [], ◌∷◌, ◌++◌, length, Bool, true, false, Option, Some, None, Result, Ok, Err, inl, inr, refl, ap, sym, subst}
-use Rattle.std.specs.Prelude.{IfSome}
+use Rattle.std.proofs.Common.{◌≡◌, ◌∙◌, ◌≤◌, ◌⊎◌, ℕ, suc, List, [], ◌∷◌, ◌++◌, length, Bool, true, false, Option, Some, None, Result, Ok, Err, inl, inr, refl, ap, sym, subst}
+use Rattle.std.specs.Prelude.{IfSome, OnOk}
 use Rattle.c65_base.specs.declared.refusal.Refusal.{Refusal}
 use Rattle.c65_base.specs.declared.refusal.Refusal.TheVariants as refusals
 use Rattle.c65_base.specs.declared.refusal.Size.TheVariants as sizes
@@ -12,12 +12,17 @@ use Rattle.c65_ppfile.specs.declared.files.Found.TheVariants as kinds
 use Rattle.c65_ppfile.specs.declared.headers.BuiltIn.{BuiltIn}
 use Rattle.c65_ppfile.specs.declared.include.Header.{Header}
 use Rattle.c65_ppdir.specs.declared.unit.Event.TheVariants as events
-use Rattle.c65_ppfile.specs.Finding.{or_next, first_held, header_of, path_at, IsFile, IsRead, IsReadAt, IsSought, Seeks}
+use Rattle.c65_ppfile.specs.Finding.{or_next, first_held, header_of, path_at, Begins, IsFile, IsSought, IsThere, IsShort, Seeks, Misses}
+use Rattle.c65_ppfile.specs.Headers.{path_of, text_behind, with_header}
 use Rattle.c65_ppline.specs.Relations.{just, IsFree, Comes}
 use Rattle.c65_ppfile.specs.Search.{paths_of}
-use Rattle.c65_ppdir.specs.Standing.{Standing, opening, has_room, advanced}
-use Rattle.c65_ppdir.specs.Units.{Held, Surroundings, Reached, Source, file, built_in, or_built_in, source_of, IsFor, opening_file, entering, with_room, around, including, located, by_path, rest_by, rest_from, rest, unit_of, with_path, Steps}
-use Rattle.c65_ppdir.proofs.Openings.{opening_read}
+use Rattle.c65_ppdir.specs.Standing.{Standing, standing, opening, has_room, advanced}
+use Rattle.c65_ppdir.specs.LineActions.{turn}
+use Rattle.c65_ppdir.specs.Files.{IsToldFile, AreTold, IsNoMiss}
+use Rattle.c65_ppdir.specs.declared.opened.Opened.{Opened}
+use Rattle.c65_ppdir.specs.declared.reader.Reader.{Reader}
+use Rattle.c65_ppdir.specs.declared.unit.Unit.{Unit as UnitParts}
+use Rattle.c65_ppdir.specs.Units.{Held, Surroundings, Reached, Source, file, built_in, or_built_in, source_of, IsFor, opening_file, entering, with_room, around, including, located, by_path, rest_by, rest_from, rest, unit_of, with_path, with_built_in, reached, IsToldUnit, AreToldWhere, Steps}
 use Rattle.c65_ppdir.proofs.Placeless.{is_located, including_placeless}
 use Rattle.c65_ppline.proofs.Relations.{goes, goes_on, onward, tested, tested_not, then_onward}
 
@@ -62,13 +67,6 @@ pub opens : (r : Reached) (path spelled bytes : List ℕ) (number : ℕ) (s : St
 opens r path spelled bytes number s paths e g h f =
     (s, subst (λ (n : ℕ). opening n path bytes r.standing (Ok s)) e (subst (λ (p : List ℕ). opening number p bytes r.standing (Ok s)) g h), ap (λ (ps : List (List ℕ)). Ok (record { standing = s; paths = ps })) f)
 
--- a file of which this was read is opened
-opens_read : {X : Type 0} (view : X → Reached) (path p text bytes : List ℕ) (r : Reached) (result' : Result X Refusal) → path ≡ p → IsRead (Some bytes) text → Comes view (opening_file path text r) result' → Comes view (opening_file p bytes r) result'
-opens_read {X} view path p text bytes r result' e read h =
-    subst (λ (q : List ℕ). Comes view (opening_file q bytes r) result') e
-    (onward view (opening_file path text r) (opening_file path bytes r) result'
-    (then_onward (opening (length r.paths) path text r.standing) (opening (length r.paths) path bytes r.standing) (λ s. just (Ok (with_path path r.paths s))) (opening_read (length r.paths) path text bytes r.standing read)) h)
-
 abbrev pub HasPath : Found → List ℕ → Type 0
 HasPath (kinds.File path front name) p = path ≡ p
 HasPath (kinds.BuiltIn header) p = ⊥
@@ -77,18 +75,15 @@ abbrev pub HasHeader : Found → BuiltIn → Type 0
 HasHeader (kinds.File path front name) h = ⊥
 HasHeader (kinds.BuiltIn header) h = header ≡ h
 
-pub read_there : (c : Contents) (held : Held) (path spelled text : List ℕ) → c ≡ Some held → spelled ≡ path → IsReadAt c spelled text → IsRead (held path) text
-read_there c held path spelled text told e h = subst (λ (p : List ℕ). IsRead (held p) text) e (subst (λ (k : Contents). IsReadAt k spelled text) told h)
-
--- a file that was found is entered, of which this was read
-pub enters_file : {X : Type 0} (view : X → Reached) (held : Held) (found : Found) (source : Source) (path text : List ℕ) (signed b : Bool) (r : Reached) (result' : Result X Refusal)
-    → HasPath found path → IsFor held found source → IsRead (held path) text → b ≡ has_room r.standing → b ≡ true → Comes view (opening_file path text r) result' → Comes view (with_room signed source r) result'
-enters_file view held (kinds.File q front name) (file p bytes) path text signed b r result' e f read room there h =
+-- a file that was found is entered
+pub enters_file : {X : Type 0} (view : X → Reached) (held : Held) (found : Found) (source : Source) (path : List ℕ) (signed b : Bool) (r : Reached) (result' : Result X Refusal)
+    → HasPath found path → IsFor held found source → b ≡ has_room r.standing → b ≡ true → ((bytes : List ℕ) → held path ≡ Some bytes → Comes view (opening_file path bytes r) result') → Comes view (with_room signed source r) result'
+enters_file view held (kinds.File q front name) (file p bytes) path signed b r result' e f room there h =
     let same : path ≡ p = sym e ∙ f.0 in
-    let bytes_read : IsRead (Some bytes) text = subst (λ (o : Option (List ℕ)). IsRead o text) (ap (λ (x : List ℕ). held x) same ∙ f.1) read in
-    tested view (has_room r.standing) (entering signed (file p bytes) r) (just (Err (refusals.TooLarge sizes.Includes 65))) result' (sym room ∙ there) (opens_read view path p text bytes r result' same bytes_read h)
-enters_file view held (kinds.File q front name) (built_in h) path text signed b r result' e f read room there k = absurd f
-enters_file view held (kinds.BuiltIn header) source path text signed b r result' e f read room there h = absurd e
+    let opened = h bytes (ap (λ (x : List ℕ). held x) same ∙ f.1) in
+    tested view (has_room r.standing) (entering signed (file p bytes) r) (just (Err (refusals.TooLarge sizes.Includes 65))) result' (sym room ∙ there) (subst (λ (x : List ℕ). Comes view (opening_file x bytes r) result') same opened)
+enters_file view held (kinds.File q front name) (built_in h) path signed b r result' e f room there k = absurd f
+enters_file view held (kinds.BuiltIn header) source path signed b r result' e f room there h = absurd e
 
 -- a header that is built in
 pub enters_header : {X : Type 0} (view : X → Reached) (held : Held) (found : Found) (source : Source) (header : BuiltIn) (signed b : Bool) (r : Reached) (result' : Result X Refusal)
@@ -154,3 +149,85 @@ pub loop_stops : (held : Held) (folders : List (List ℕ)) (signed b : Bool) (st
     → Steps (around held folders b) r q (Err e) → IsFree e ⊎ rest (around held folders signed) start (Err (located q.paths e))
 loop_stops held folders signed b start r q e before same (inl h) = inl h
 loop_stops held folders signed b start r q e before same (inr h) = inr (before 1 (Err (located q.paths e)) (subst (λ (c : Bool). rest_from 1 (around held folders c) r (Err (located q.paths e))) same h))
+
+-- the next line is refused
+pub no_turn : (s : Standing) (e : Refusal) → IsFree e ⊎ turn s.here (Err e) → IsFree e ⊎ advanced s (Err e)
+no_turn s e (inl h) = inl h
+no_turn s e (inr h) = inr (inl h)
+
+-- what holds behind each value
+pub on_ok : {T A B : Type 0} (answer : Result T Refusal) → OnOk answer A → (A → B) → OnOk answer B
+on_ok (Ok x) h f = f h
+on_ok (Err e) h f = tt
+
+-- a file is not opened
+pub opens_not : (r : Reached) (path spelled bytes : List ℕ) (number : ℕ) (e : Refusal) → number ≡ length r.paths → spelled ≡ path → IsFree e ⊎ opening number spelled bytes r.standing (Err e) → IsFree e ⊎ opening_file path bytes r (Err e)
+opens_not r path spelled bytes number e same g (inl h) = inl h
+opens_not r path spelled bytes number e same g (inr h) =
+    inr (inl (subst (λ (n : ℕ). opening n path bytes r.standing (Err e)) same (subst (λ (p : List ℕ). opening number p bytes r.standing (Err e)) g h)))
+
+-- a header that is built in is entered
+pub enters_built_in : {X : Type 0} (view : X → Reached) (signed : Bool) (h : BuiltIn) (r q : Reached) (path bytes : List ℕ) (answer : Result X Refusal)
+    → path ≡ path_of h → bytes ≡ text_behind signed r.standing.headers h → q ≡ with_built_in h r → Comes view (opening_file path bytes q) answer → Comes view (entering signed (built_in h) r) answer
+enters_built_in view signed h r q path bytes answer a b d k =
+    subst (λ (p : List ℕ). Comes view (opening_file p (text_behind signed r.standing.headers h) (with_built_in h r)) answer) a
+    (subst (λ (bs : List ℕ). Comes view (opening_file path bs (with_built_in h r)) answer) b
+    (subst (λ (x : Reached). Comes view (opening_file path bytes x) answer) d k))
+
+abbrev parts : Held → List (List ℕ) → List (List ℕ) → Reader → Opened → List Opened → List BuiltIn → Reached
+parts held names paths reader here outer headers = record { standing = standing held reader here outer headers names; paths = paths }
+
+-- a unit that includes one header more
+pub with_header_more : (held : Held) (names paths : List (List ℕ)) (u v : UnitParts) (h : BuiltIn) → v.reader ≡ u.reader → v.file ≡ u.file → v.outer ≡ u.outer → v.included.headers.items ≡ with_header u.included.headers.items h
+    → reached held v names paths ≡ with_built_in h (reached held u names paths)
+with_header_more held names paths u v h a b d e =
+    let same : v.outer.items ≡ u.outer.items = first_of (rw d, cc (d)) in
+    ap (λ (x : Reader). parts held names paths x v.file v.outer.items v.included.headers.items) a
+    ∙ (ap (λ (x : Opened). parts held names paths u.reader x v.outer.items v.included.headers.items) b
+    ∙ (ap (λ (x : List Opened). parts held names paths u.reader u.file x v.included.headers.items) same
+    ∙ ap (λ (x : List BuiltIn). parts held names paths u.reader u.file u.outer.items x) e))
+
+pub told_same : (held : Held) (u v : UnitParts) → v.file ≡ u.file → v.outer ≡ u.outer → IsToldUnit held u → IsToldUnit held v
+told_same held u v a b h =
+    let same : v.outer.items ≡ u.outer.items = first_of (rw b, cc (b)) in
+    (subst (λ (o : Opened). IsToldFile held o) (sym a) h.0, subst (λ (os : List Opened). AreTold held os) (sym same) h.1)
+
+abbrev pub HasFile : Found → List ℕ → List ℕ → Type 0
+HasFile (kinds.File path front name) p first = (path ≡ p) × (front.items ≡ first)
+HasFile (kinds.BuiltIn header) p first = ⊥
+
+-- the file that was found begins with the bytes that were read of it
+pub begins_as : (held : Held) (found : Found) (path first bytes : List ℕ) → HasFile found path first → IsThere (Some held) found → held path ≡ Some bytes → Begins (Some bytes) first
+begins_as held (kinds.File q front name) path first bytes e there h =
+    subst (λ (xs : List ℕ). Begins (Some bytes) xs) e.1 (subst (λ (o : Option (List ℕ)). Begins o front.items) (ap (λ (x : List ℕ). held x) e.0 ∙ h) there.0)
+begins_as held (kinds.BuiltIn header) path first bytes e there h = absurd e
+
+pub file_there : (held : Held) (found : Found) (source : Source) (path first : List ℕ) → HasFile found path first → IsFor held found source → (bytes : List ℕ) × (held path ≡ Some bytes)
+file_there held (kinds.File q front name) (file p bytes) path first e f = (bytes, ap (λ (x : List ℕ). held x) (sym e.0 ∙ f.0) ∙ f.1)
+file_there held (kinds.File q front name) (built_in h) path first e f = absurd f
+file_there held (kinds.BuiltIn header) source path first e f = absurd e
+
+pub short_first : (found : Found) (path first : List ℕ) → HasFile found path first → IsShort found → length first ≤ 4096
+short_first (kinds.File q front name) path first e h = subst (λ (xs : List ℕ). length xs ≤ 4096) e.1 h
+short_first (kinds.BuiltIn header) path first e h = absurd e
+
+pub found_short : (c : Contents) (including : List ℕ) (folders : List (List ℕ)) (header : Header) (found : Found) → Seeks c including folders header (Ok found) → IsShort found
+found_short c including folders header (kinds.File path front name) h = h.1
+found_short c including folders header (kinds.BuiltIn b) h = tt
+
+-- a line is refused for no file that is missing, where files tell what they hold
+pub no_miss : (T : Type 0) (c : Contents) (folders : List (List ℕ)) (e : Refusal) → ((held : Held) → c ≡ Some held → IsNoMiss e) → Misses {T = T} c folders (Err e)
+no_miss T None folders (refusals.Missing name) h = ([], false, tt)
+no_miss T (Some held) folders (refusals.Missing name) h = absurd (h held refl)
+no_miss T c folders _ h = tt
+
+pub told_where : (c : Contents) (held : Held) (u : UnitParts) → c ≡ Some held → AreToldWhere c u → IsToldUnit held u
+told_where c held u e h = subst (λ (k : Contents). AreToldWhere k u) e h
+
+told_by : (c : Contents) (u v : UnitParts) → ((held : Held) → c ≡ Some held → IsToldUnit held u → IsToldUnit held v) → AreToldWhere c u → AreToldWhere c v
+told_by None u v f h = tt
+told_by (Some held) u v f h = f held refl h
+
+-- the files of a unit are told still
+pub told_on : (c d : Contents) (u v : UnitParts) → d ≡ c → ((held : Held) → c ≡ Some held → IsToldUnit held u → IsToldUnit held v) → AreToldWhere c u → AreToldWhere d v
+told_on c d u v same f h = subst (λ (k : Contents). AreToldWhere k v) (sym same) (told_by c u v f h)

@@ -6,8 +6,9 @@ use Rattle.c65_ppline.specs.declared.line.Cut.{Cut}
 use Rattle.c65_ppline.specs.declared.line.Cut.TheVariants as cuts
 use Rattle.c65_ppline.specs.declared.line.Line.{Line}
 use Rattle.c65_ppdir.specs.declared.opened.Opened.{Opened}
-use Rattle.c65_ppdir.specs.declared.opened.Read.{Read}
-use Rattle.c65_ppdir.specs.declared.opened.Read.TheVariants as reads
+use Rattle.c65_ppdir.specs.Files.{OpenFile, opened_as}
+use Rattle.c65_pptext.specs.declared.ending.Read.{Read}
+use Rattle.c65_pptext.specs.declared.ending.Read.TheVariants as reads
 use Rattle.c65_ppdir.specs.Opening.{IsReadNext}
 use Rattle.c65_ppline.specs.Tokens.{is_word}
 
@@ -30,22 +31,22 @@ line_of hash ts end cut = record { hash = hash; tokens = ts; end = end; cut = cu
 -- a line, the file behind it, and the spellings known then
 pub record Gathering : Type 0 where
   pub line : Line
-  pub file : Opened
+  pub file : OpenFile
   pub names : List (List ℕ)
 
-abbrev pub gathering : Line → Opened → List (List ℕ) → Gathering
+abbrev pub gathering : Line → OpenFile → List (List ℕ) → Gathering
 gathering line file names = record { line = line; file = file; names = names }
 
-abbrev pub Gathered : (List PpToken → Type 0) → Pos → List PpToken → Read → Opened → List (List ℕ) → Gathering → Type 0
+abbrev pub Gathered : (List PpToken → Type 0) → Pos → List PpToken → Read → OpenFile → List (List ℕ) → Gathering → Type 0
 Gathered more hash ts (reads.Token t) file names g = more (ts ++ t ∷ [])
 Gathered more hash ts (reads.LineEnd t) file names g = g ≡ gathering (line_of hash ts t.pos.line None) file names
 Gathered more hash ts reads.End file names g = g ≡ gathering (line_of hash ts hash.line None) file names
 Gathered more hash ts (reads.Cut cut) file names g = g ≡ gathering (line_of hash (used cut ts) hash.line (Some cut)) file names
 
 -- with the tokens so far, by so many steps
-abbrev pub Gathers : ℕ → Pos → List PpToken → Opened → List (List ℕ) → Gathering → Type 0
+abbrev pub Gathers : ℕ → Pos → List PpToken → OpenFile → List (List ℕ) → Gathering → Type 0
 Gathers zero hash ts file names g = ⊥
-Gathers (suc n) hash ts file names g = (r : Read) × (left : Opened) × (known : List (List ℕ)) × IsReadNext (allows_header names ts) file names r left known × Gathered (λ us. Gathers n hash us left known g) hash ts r left known g
+Gathers (suc n) hash ts file names g = (r : Read) × (left : OpenFile) × (known : List (List ℕ)) × IsReadNext (allows_header names ts) file names r left known × Gathered (λ us. Gathers n hash us left known g) hash ts r left known g
 
-abbrev pub IsLineRead : Pos → Opened → List (List ℕ) → Gathering → Type 0
+abbrev pub IsLineRead : Pos → OpenFile → List (List ℕ) → Gathering → Type 0
 IsLineRead hash file names g = (n : ℕ) × Gathers n hash [] file names g

@@ -1,3 +1,4 @@
+pub mod Files
 pub mod UnitTokens
 pub mod Opening
 pub mod Gathering

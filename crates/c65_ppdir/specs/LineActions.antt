@@ -15,8 +15,9 @@ use Rattle.c65_ppline.specs.declared.directive.Test.TheVariants as tests
 use Rattle.c65_ppline.specs.declared.line.Line.{Line}
 use Rattle.c65_ppline.specs.declared.numbering.Given.{Given}
 use Rattle.c65_ppdir.specs.declared.opened.Opened.{Opened}
-use Rattle.c65_ppdir.specs.declared.opened.Read.{Read}
-use Rattle.c65_ppdir.specs.declared.opened.Read.TheVariants as reads
+use Rattle.c65_ppdir.specs.Files.{OpenFile, opened_as}
+use Rattle.c65_pptext.specs.declared.ending.Read.{Read}
+use Rattle.c65_pptext.specs.declared.ending.Read.TheVariants as reads
 use Rattle.c65_ppdir.specs.declared.opened.Unseen.{Unseen}
 use Rattle.c65_ppdir.specs.declared.opened.Unseen.TheVariants as unseens
 use Rattle.c65_ppdir.specs.declared.reader.Turn.{Turn}
@@ -78,7 +79,7 @@ parted parts.Otherwise line p = of (otherwise line.hash p.file.groups) then λ g
 parted parts.End line p = of (end line.hash p.file.groups) then λ gs. whole line (with_groups gs p)
 
 -- #line counts the lines of its file anew, and names it anew where a name is given (C90 6.8.4)
-abbrev pub renamed : Given → Line → Opened → Opened
+abbrev pub renamed : Given → Line → OpenFile → OpenFile
 renamed given line file = record file { literal = unwrap_or given.file file.literal; count = record { given = given.number; real = line.end } }
 
 abbrev pub renumbered : Given → Line → Progress → Progress
@@ -144,7 +145,7 @@ abbrev pub passed : Pos → Progress → Answers Progress
 passed hash p = line_read hash p then λ x. passed_by (part_of (head_of x.1.names x.0.tokens)) x.0 x.1
 
 abbrev pub skipped_rest : Progress → Answers Progress
-skipped_rest p (Ok q) = (left : Opened) × skipped p.file (Ok left) × (q ≡ record p { file = left })
+skipped_rest p (Ok q) = (left : OpenFile) × skipped p.file (Ok left) × (q ≡ record p { file = left })
 skipped_rest p (Err e) = skipped p.file (Err e)
 
 -- a line that is skipped

@@ -11,7 +11,9 @@ use Rattle.c65_macro.specs.Table.{Table}
 use Rattle.c65_ppline.specs.declared.condition.Group.{Group}
 use Rattle.c65_ppline.specs.declared.line.Line.{Line}
 use Rattle.c65_ppdir.specs.declared.opened.Opened.{Opened}
-use Rattle.c65_ppdir.specs.declared.opened.Read.{Read}
+use Rattle.c65_ppdir.specs.Files.{OpenFile, opened_as}
+use Rattle.c65_pptext.specs.Reading.{Held}
+use Rattle.c65_pptext.specs.declared.ending.Read.{Read}
 use Rattle.c65_ppdir.specs.declared.opened.Unseen.{Unseen}
 use Rattle.c65_ppdir.specs.declared.reader.Reader.{Reader}
 use Rattle.c65_ppdir.specs.Gathering.{Gathering, IsLineRead}
@@ -24,11 +26,11 @@ pub record Progress : Type 0 where
   pub table : Table
   pub given : List PpToken
   pub list : List PpToken
-  pub file : Opened
+  pub file : OpenFile
   pub names : List (List ℕ)
 
-abbrev pub progress : Reader → Opened → List (List ℕ) → Progress
-progress reader file names = record { table = reader.macros; given = reader.output.given; list = reader.output.list.items; file = file; names = names }
+abbrev pub progress : Held → Reader → Opened → List (List ℕ) → Progress
+progress held reader file names = record { table = reader.macros; given = reader.output.given; list = reader.output.list.items; file = opened_as held file; names = names }
 
 abbrev pub with_groups : List Group → Progress → Progress
 with_groups gs p = record p { file = record p.file { groups = gs } }
@@ -72,12 +74,12 @@ settles fault p (Err e) = Settles fault p e
 
 -- what is read next
 abbrev pub read_next : Bool → Progress → Answers (Read × Progress)
-read_next header p (Ok x) = (left : Opened) × (known : List (List ℕ)) × IsReadNext header p.file p.names x.0 left known × (x.1 ≡ record p { file = left; names = known })
+read_next header p (Ok x) = (left : OpenFile) × (known : List (List ℕ)) × IsReadNext header p.file p.names x.0 left known × (x.1 ≡ record p { file = left; names = known })
 read_next header p (Err e) = ⊥
 
 -- the same of a line that is skipped
 abbrev pub seen_next : Progress → Answers (Unseen × Progress)
-seen_next p (Ok x) = (left : Opened) × IsSeenNext p.file x.0 left × (x.1 ≡ record p { file = left })
+seen_next p (Ok x) = (left : OpenFile) × IsSeenNext p.file x.0 left × (x.1 ≡ record p { file = left })
 seen_next p (Err e) = ⊥
 
 -- the line behind a #

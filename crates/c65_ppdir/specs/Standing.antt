@@ -1,5 +1,5 @@
 -- What reading has come to in a unit, and what the next line of it does.
-use Rattle.std.specs.Prelude.{ℕ, ◌+◌, pos, List, [], ◌∷◌, ◌++◌, length, Bool, ◌==◌, ◌||◌, nat_lt, reverse, if◌then◌else◌, Ok}
+use Rattle.std.specs.Prelude.{ℕ, ◌+◌, pos, List, [], ◌∷◌, ◌++◌, length, Bool, ◌==◌, ◌||◌, nat_lt, map, reverse, if◌then◌else◌, Ok}
 use Rattle.c65_base.specs.Limits.{limit_of}
 use Rattle.c65_base.specs.declared.refusal.Size.TheVariants.{Includes}
 use Rattle.c65_base.specs.declared.names.Name.{Name}
@@ -8,6 +8,8 @@ use Rattle.c65_macro.specs.Items.{learn}
 use Rattle.c65_macro.specs.Table.{Table}
 use Rattle.c65_ppfile.specs.declared.headers.BuiltIn.{BuiltIn}
 use Rattle.c65_ppdir.specs.declared.opened.Opened.{Opened}
+use Rattle.c65_ppdir.specs.Files.{OpenFile, opened_as}
+use Rattle.c65_pptext.specs.Reading.{Held}
 use Rattle.c65_ppdir.specs.declared.reader.Reader.{Reader}
 use Rattle.c65_ppdir.specs.declared.reader.Turn.{Turn}
 use Rattle.c65_ppdir.specs.declared.reader.Turn.TheVariants as turns
@@ -22,11 +24,11 @@ use Rattle.c65_ppline.specs.Relations.{Answers, just, ◌then◌}
 -- the innermost file; the files that include it, each before the one that includes it; and the headers that were built in
 pub record Standing : Type 0 where
   pub here : Progress
-  pub outer : List Opened
+  pub outer : List OpenFile
   pub headers : List BuiltIn
 
-abbrev pub standing : Reader → Opened → List Opened → List BuiltIn → List (List ℕ) → Standing
-standing reader file outer headers names = record { here = progress reader file names; outer = reverse outer; headers = headers }
+abbrev pub standing : Held → Reader → Opened → List Opened → List BuiltIn → List (List ℕ) → Standing
+standing held reader file outer headers names = record { here = progress held reader file names; outer = map (opened_as held) (reverse outer); headers = headers }
 
 -- a path as a string literal
 abbrev pub escaped : List ℕ → List ℕ
@@ -41,15 +43,15 @@ abbrev pub learned : List (List ℕ) → List ℕ → Answers (Name × List (Lis
 learned names spelling = known_then (λ known answer. Answered.Gives (λ n. n) answer known (learn names spelling))
 
 -- the lines of a file are counted, and the file is named, as it says itself
-abbrev pub counting : Opened → Table → Table
+abbrev pub counting : OpenFile → Table → Table
 counting file table = record table { file = file.literal; offset = offset file.count }
 
 -- a file begins
-abbrev pub entered : Opened → List (List ℕ) → Progress → Progress
+abbrev pub entered : OpenFile → List (List ℕ) → Progress → Progress
 entered file names p = record { table = counting file p.table; given = p.given; list = p.list; file = file; names = names }
 
 -- a file of this number, path and bytes is opened in the innermost one
-abbrev pub inner : Opened → List (List ℕ) → Standing → Standing
+abbrev pub inner : OpenFile → List (List ℕ) → Standing → Standing
 inner file names s = record { here = entered file names s.here; outer = s.here.file ∷ s.outer; headers = s.headers }
 
 abbrev pub opening : ℕ → List ℕ → List ℕ → Standing → Answers Standing
@@ -60,7 +62,7 @@ abbrev pub has_room : Standing → Bool
 has_room s = nat_lt (length s.outer + 1) (limit_of Includes)
 
 -- the innermost file is at its end
-abbrev pub left : Progress → List Opened → List BuiltIn → Event × Standing
+abbrev pub left : Progress → List OpenFile → List BuiltIn → Event × Standing
 left p [] headers = (events.End, record { here = p; outer = []; headers = headers })
 left p (file ∷ outer) headers = (events.Line, record { here = entered file p.names p; outer = outer; headers = headers })
 

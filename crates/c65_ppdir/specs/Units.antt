@@ -1,11 +1,12 @@
 -- Preprocessing: from files that tell what they hold, options, definitions, folders and a path to the tokens of a unit, or to
 -- its first refusal (C90 5.1.1.2, phases 1 to 4).
-use Rattle.std.specs.Prelude.{◌≡◌, ◌⊎◌, ℕ, ◌+◌, zero, suc, List, [], ◌∷◌, ◌++◌, length, Bool, true, false, Option, Some, None, Result, Ok, Err}
+use Rattle.std.specs.Prelude.{◌≡◌, ◌⊎◌, ℕ, ◌+◌, zero, suc, List, [], ◌∷◌, ◌++◌, length, Bool, true, false, Option, Some, None, Result, Ok, Err, ⊤}
 use Rattle.c65_base.specs.Limits.{limit_of}
 use Rattle.c65_base.specs.declared.options.Options.{Options}
 use Rattle.c65_base.specs.declared.refusal.Refusal.{Refusal}
 use Rattle.c65_base.specs.declared.refusal.Refusal.TheVariants as refusals
 use Rattle.c65_base.specs.declared.refusal.Size.TheVariants as sizes
+use Rattle.c65_io.specs.Contents.{Contents}
 use Rattle.c65_lex.specs.declared.token.PpToken.{PpToken}
 use Rattle.c65_lex.specs.declared.token.PpUnit.{PpUnit}
 use Rattle.c65_macro.specs.Answered
@@ -18,6 +19,7 @@ use Rattle.c65_ppfile.specs.declared.headers.BuiltIn.{BuiltIn}
 use Rattle.c65_ppfile.specs.declared.include.Header.{Header}
 use Rattle.c65_ppdir.specs.declared.unit.Event.{Event}
 use Rattle.c65_ppdir.specs.declared.unit.Event.TheVariants as events
+use Rattle.c65_ppdir.specs.Files.{IsToldFile, AreTold}
 use Rattle.c65_ppdir.specs.CommandLine.{all_defined}
 use Rattle.c65_ppfile.specs.Finding.{first_held, header_of, path_at}
 use Rattle.c65_ppfile.specs.Headers.{path_of, text_behind, with_header}
@@ -45,8 +47,16 @@ pub record Reached : Type 0 where
   pub standing : Standing
   pub paths : List (List ℕ)
 
-abbrev pub reached : UnitParts → List (List ℕ) → List (List ℕ) → Reached
-reached u names paths = record { standing = standing u.reader u.file u.outer.items u.included.headers.items names; paths = paths }
+abbrev pub reached : Held → UnitParts → List (List ℕ) → List (List ℕ) → Reached
+reached held u names paths = record { standing = standing held u.reader u.file u.outer.items u.included.headers.items names; paths = paths }
+
+-- all files of a unit are told
+abbrev pub IsToldUnit : Held → UnitParts → Type 0
+IsToldUnit held u = IsToldFile held u.file × AreTold held u.outer.items
+
+abbrev pub AreToldWhere : Contents → UnitParts → Type 0
+AreToldWhere None u = ⊤
+AreToldWhere (Some held) u = IsToldUnit held u
 
 -- what is found for an #include: a file's path and bytes, or a header that is built in
 pub data Source : Type 0 where

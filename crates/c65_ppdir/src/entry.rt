@@ -1,12 +1,14 @@
 // The entry of the crate: a file and all that it includes.
-ghost use Rattle.std.specs.Prelude.{◌≡◌, [], Some, IfErr, IfOk};
+ghost use Rattle.std.specs.Prelude.{◌≡◌, ◌≤◌, ◌∷◌, ◌++◌, ℕ, List, [], length, Some, IfErr, IfOk, OnOk};
+ghost use Rattle.c65_base.specs.declared.refusal.Refusal.TheVariants.{OutOfMemory};
 ghost use Rattle.c65_ppline.specs.Causes.{Stops, StopsReading, StopsUnit, StopsCommand};
 ghost use Rattle.c65_ppfile.specs.Counts.{FaultCause, MissCause, Relocates, Serves, outside};
 ghost use Rattle.c65_ppfile.specs.Finding;
-ghost use Rattle.c65_ppfile.specs.Finding.{IsThere, Enters, Includes, Misses, MissesInUnit};
+ghost use Rattle.c65_ppfile.specs.Finding.{Begins, IsThere, IsShort, Includes, Misses, MissesInUnit};
 ghost use Rattle.c65_ppline.specs.Relations.{Comes};
 ghost use Rattle.c65_ppdir.specs.Units;
-ghost use Rattle.c65_ppdir.specs.Units.{Held, Source, IsFor, ComesAt, Steps, around, reached, unit_of};
+ghost use Rattle.c65_ppdir.specs.Units.{Held, Source, IsFor, ComesAt, Steps, IsToldUnit, AreToldWhere, around, reached, unit_of};
+ghost use Rattle.c65_pptext.specs.Reading.{IsTold, text_as, text_of};
 
 use crate::command::define_all;
 use crate::unit::{Event, Unit};
@@ -14,7 +16,8 @@ use c65_base::{Names, Options, Refusal, Size, Text};
 use c65_io::Files;
 use c65_lex::{Define, Paths, PpTokens, PpUnit};
 use c65_macro::Macros;
-use c65_ppfile::{BuiltIn, Found, Header, complete, read_main, seek};
+use c65_ppfile::{BuiltIn, Found, Header, begin_main, seek};
+use c65_pptext::FileText;
 use std::alloc::Global;
 
 /// Opens a file with this path and text, and adds its path to the unit's list.
@@ -23,10 +26,11 @@ fn open(
     names: &mut Names,
     paths: &mut Vec<Text>,
     path: Text,
-    text: Vec<u8>,
+    text: FileText,
 ) -> Result<(), Refusal>
     ensures stops { IfErr result Stops }
-    ensures exact { Comes (λ _. reached unit.new names.new paths.new.items) (Units.opening_file path text.items (reached unit.old names.old paths.old.items)) result }
+    ensures told { OnOk result ((held : Held) → IsTold held text → IsToldUnit held unit.old → IsToldUnit held unit.new) }
+    ensures exact { (held : Held) (bytes : List ℕ) → text_as held text ≡ text_of (length paths.old.items) bytes → Comes (λ _. reached held unit.new names.new paths.new.items) (Units.opening_file path bytes (reached held unit.old names.old paths.old.items)) result }
     ensures signed { unit.new.included.is_char_signed ≡ unit.old.included.is_char_signed }
 {
     let number = paths.len() as u64;
@@ -47,29 +51,53 @@ fn open_built_in(
     header: BuiltIn,
 ) -> Result<(), Refusal>
     ensures stops { IfErr result Stops }
-    ensures exact { Comes (λ _. reached unit.new names.new paths.new.items) (Units.entering unit.old.included.is_char_signed (Source.built_in header) (reached unit.old names.old paths.old.items)) result }
+    ensures told { OnOk result ((held : Held) → IsToldUnit held unit.old → IsToldUnit held unit.new) }
+    ensures exact { (held : Held) → Comes (λ _. reached held unit.new names.new paths.new.items) (Units.entering unit.old.included.is_char_signed (Source.built_in header) (reached held unit.old names.old paths.old.items)) result }
     ensures signed { unit.new.included.is_char_signed ≡ unit.old.included.is_char_signed }
 {
     let path = Text::copy_of(alloc, header.path())?;
-    let text = unit.built_in(header)?;
-    open(unit, names, paths, path, text)
+    let bytes = unit.built_in(header)?;
+    match FileText::whole(alloc, paths.len() as u64, &bytes) {
+        Ok(text) => open(unit, names, paths, path, text),
+        Err(refusal) => Err(refusal),
+    }
+}
+
+/// Opens a file that was found, which begins with these bytes and is missing by this name.
+fn open_found(
+    alloc: Global,
+    unit: &mut Unit,
+    names: &mut Names,
+    paths: &mut Vec<Text>,
+    path: Text,
+    first: &[u8],
+    name: Text,
+) -> Result<(), Refusal>
+    requires { length first.now ≤ 4096 }
+    ensures stops { IfErr result Stops }
+    ensures told { OnOk result ((held : Held) (bytes : List ℕ) → held path ≡ Some bytes → Begins (Some bytes) first.now → IsToldUnit held unit.old → IsToldUnit held unit.new) }
+    ensures exact { (held : Held) (bytes : List ℕ) → held path ≡ Some bytes → Begins (Some bytes) first.now → Comes (λ _. reached held unit.new names.new paths.new.items) (Units.opening_file path bytes (reached held unit.old names.old paths.old.items)) result }
+    ensures signed { unit.new.included.is_char_signed ≡ unit.old.included.is_char_signed }
+{
+    let read_from = path.copy(alloc)?;
+    match FileText::begin(alloc, paths.len() as u64, read_from, name, first) {
+        Ok(text) => open(unit, names, paths, path, text),
+        Err(refusal) => Err(refusal),
+    }
 }
 
 /// Opens a file that was found.
-fn enter<F: Files>(
+fn enter(
     alloc: Global,
-    files: &mut F,
-    folders: &[Text],
     unit: &mut Unit,
     names: &mut Names,
     paths: &mut Vec<Text>,
     found: Found,
 ) -> Result<(), Refusal>
-    requires { IsThere (F.contents files.old) found }
-    ensures serves { Serves folders.now (outside (F.contents files.old) (F.write_faults files.old) (F.faults files.old) (F.misses files.old))
-        (outside (F.contents files.new) (F.write_faults files.new) (F.faults files.new) (F.misses files.new)) result }
-    ensures enters { Enters (F.contents files.old) found result }
-    ensures exact { (held : Held) (source : Source) → F.contents files.old ≡ Some held → IsFor held found source → Comes (λ _. reached unit.new names.new paths.new.items) (Units.with_room unit.old.included.is_char_signed source (reached unit.old names.old paths.old.items)) result }
+    requires { IsShort found }
+    ensures stops { IfErr result Stops }
+    ensures told { OnOk result ((held : Held) (source : Source) → IsThere (Some held) found → IsFor held found source → IsToldUnit held unit.old → IsToldUnit held unit.new) }
+    ensures exact { (held : Held) (source : Source) → IsThere (Some held) found → IsFor held found source → Comes (λ _. reached held unit.new names.new paths.new.items) (Units.with_room unit.old.included.is_char_signed source (reached held unit.old names.old paths.old.items)) result }
     ensures signed { unit.new.included.is_char_signed ≡ unit.old.included.is_char_signed }
 {
     if !unit.has_room() {
@@ -80,10 +108,7 @@ fn enter<F: Files>(
     }
     match found {
         Found::File(path, first, name) => {
-            match complete(files, folders, path.as_slice(), name, first) {
-                Ok(text) => open(unit, names, paths, path, text),
-                Err(refusal) => Err(refusal),
-            }
+            open_found(alloc, unit, names, paths, path, &first, name)
         }
         Found::BuiltIn(header) => open_built_in(alloc, unit, names, paths, header),
     }
@@ -113,11 +138,12 @@ fn include<F: Files>(
     ensures serves { Serves folders.now (outside (F.contents files.old) (F.write_faults files.old) (F.faults files.old) (F.misses files.old))
         (outside (F.contents files.new) (F.write_faults files.new) (F.faults files.new) (F.misses files.new)) result }
     ensures includes { Includes (F.contents files.old) (Finding.path_at paths.old.items number) folders.now header result }
-    ensures exact { (held : Held) → F.contents files.old ≡ Some held → Comes (λ _. reached unit.new names.new paths.new.items) (Units.including (around held folders.now unit.old.included.is_char_signed) header number (reached unit.old names.old paths.old.items)) result }
+    ensures told { OnOk result ((held : Held) → F.contents files.old ≡ Some held → IsToldUnit held unit.old → IsToldUnit held unit.new) }
+    ensures exact { (held : Held) → F.contents files.old ≡ Some held → Comes (λ _. reached held unit.new names.new paths.new.items) (Units.including (around held folders.now unit.old.included.is_char_signed) header number (reached held unit.old names.old paths.old.items)) result }
     ensures signed { unit.new.included.is_char_signed ≡ unit.old.included.is_char_signed }
 {
     match seek(alloc, files, folders, path_at(paths, number), header) {
-        Ok(found) => enter(alloc, files, folders, unit, names, paths, found),
+        Ok(found) => enter(alloc, unit, names, paths, found),
         Err(refusal) => Err(refusal),
     }
 }
@@ -133,11 +159,12 @@ fn read_line<F: Files>(
 ) -> Result<bool, Refusal>
     ensures serves { Serves folders.now (outside (F.contents files.old) (F.write_faults files.old) (F.faults files.old) (F.misses files.old))
         (outside (F.contents files.new) (F.write_faults files.new) (F.faults files.new) (F.misses files.new)) result }
-    ensures misses { Misses (F.contents files.old) folders.now result }
-    ensures exact { (held : Held) → F.contents files.old ≡ Some held → Steps (around held folders.now unit.old.included.is_char_signed) (reached unit.old names.old paths.old.items) (reached unit.new names.new paths.new.items) result }
+    ensures misses { AreToldWhere (F.contents files.old) unit.old → Misses (F.contents files.old) folders.now result }
+    ensures told { OnOk result ((held : Held) → F.contents files.old ≡ Some held → IsToldUnit held unit.old → IsToldUnit held unit.new) }
+    ensures exact { (held : Held) → F.contents files.old ≡ Some held → IsToldUnit held unit.old → Steps (around held folders.now unit.old.included.is_char_signed) (reached held unit.old names.old paths.old.items) (reached held unit.new names.new paths.new.items) result }
     ensures signed { unit.new.included.is_char_signed ≡ unit.old.included.is_char_signed }
 {
-    match unit.advance(names) {
+    match unit.advance(files, folders, names) {
         Ok(Event::Line) => Ok(true),
         Ok(Event::Include(header, number)) => {
             match include(alloc, files, folders, unit, names, paths, header, number) {
@@ -161,8 +188,8 @@ fn read_lines<F: Files>(
 ) -> Result<PpTokens, Refusal>
     ensures serves { Serves folders.now (outside (F.contents files.old) (F.write_faults files.old) (F.faults files.old) (F.misses files.old))
         (outside (F.contents files.new) (F.write_faults files.new) (F.faults files.new) (F.misses files.new)) result }
-    ensures misses { Misses (F.contents files.old) folders.now result }
-    ensures exact { (held : Held) → F.contents files.old ≡ Some held → ComesAt paths.new.items (λ tokens. (unit_of tokens paths.new.items, names.new)) (Units.rest (around held folders.now unit.included.is_char_signed) (reached unit names.old paths.old.items)) result }
+    ensures misses { AreToldWhere (F.contents files.old) unit → Misses (F.contents files.old) folders.now result }
+    ensures exact { (held : Held) → F.contents files.old ≡ Some held → IsToldUnit held unit → ComesAt paths.new.items (λ tokens. (unit_of tokens paths.new.items, names.new)) (Units.rest (around held folders.now unit.included.is_char_signed) (reached held unit names.old paths.old.items)) result }
 {
     let mut unit = unit;
     for _ in 0..u64::MAX {
@@ -178,7 +205,17 @@ fn read_lines<F: Files>(
     Err(Refusal::OutOfMemory)
 }
 
-/// Opens the first file of a unit.
+/// Adds a path to a unit's list.
+fn add_path(alloc: Global, paths: &mut Vec<Text>, path: &Text) -> Result<(), Refusal>
+    ensures refused { IfErr result (λ e. e ≡ OutOfMemory) }
+    ensures added { OnOk result (paths.new.items ≡ paths.old.items ++ path.now ∷ []) }
+{
+    let listed = path.copy(alloc)?;
+    paths.push(listed)?;
+    Ok(())
+}
+
+/// Opens the first file of a unit, which begins with these bytes.
 fn begin(
     alloc: Global,
     options: &Options,
@@ -186,18 +223,28 @@ fn begin(
     names: &mut Names,
     paths: &mut Vec<Text>,
     path: &Text,
-    text: Vec<u8>,
+    first: &[u8],
 ) -> Result<Unit, Refusal>
+    requires { length first.now ≤ 4096 }
     ensures stops { IfErr result Stops }
-    ensures exact { Comes (λ u. reached u names.new paths.new.items) (Units.first_reached paths.old.items macros path.now text.items names.old) result }
+    ensures told { IfOk result (λ u. (held : Held) (bytes : List ℕ) → held path.now ≡ Some bytes → Begins (Some bytes) first.now → IsToldUnit held u) }
+    ensures exact { (held : Held) (bytes : List ℕ) → held path.now ≡ Some bytes → Begins (Some bytes) first.now → Comes (λ u. reached held u names.new paths.new.items) (Units.first_reached paths.old.items macros path.now bytes names.old) result }
     ensures signed { IfOk result (λ u. u.included.is_char_signed ≡ options.now.signed_chars) }
 {
+    let read_from = path.copy(alloc)?;
+    let name = path.copy(alloc)?;
+    let text = match FileText::begin(alloc, 0, read_from, name, first) {
+        Ok(text) => text,
+        Err(refusal) => return Err(refusal),
+    };
     let unit = match Unit::begin(alloc, options, macros, names, path.as_slice(), text) {
         Ok(unit) => unit,
         Err(refusal) => return Err(refusal),
     };
-    paths.push(path.copy(alloc)?)?;
-    Ok(unit)
+    match add_path(alloc, paths, path) {
+        Ok(()) => Ok(unit),
+        Err(refusal) => Err(refusal),
+    }
 }
 
 /// Reads a unit from its first file on.
@@ -216,11 +263,11 @@ fn read_unit<F: Files>(
     ensures misses { MissesInUnit (F.contents files.old) folders.now path.now result }
     ensures exact { (held : Held) → F.contents files.old ≡ Some held → paths.old.items ≡ [] → ComesAt paths.new.items (λ tokens. (unit_of tokens paths.new.items, names.new)) (Units.unit_read (around held folders.now options.now.signed_chars) path.now macros names.old) result }
 {
-    let text = match read_main(alloc, files, folders, path) {
-        Ok(text) => text,
+    let first = match begin_main(alloc, files, folders, path) {
+        Ok(first) => first,
         Err(refusal) => return Err(refusal),
     };
-    match begin(alloc, options, macros, names, paths, path, text) {
+    match begin(alloc, options, macros, names, paths, path, &first) {
         Ok(unit) => read_lines(alloc, files, folders, unit, names, paths),
         Err(refusal) => Err(refusal),
     }

@@ -1,53 +1,35 @@
 // A file that is open: what is left of its text, how its lines are counted, and its groups.
-ghost use Rattle.std.specs.Prelude.{◌≡◌, reverse, Some, None, IfErr, IfOk};
+ghost use Rattle.std.specs.Prelude.{◌≡◌, [], Some, None, IfErr};
 ghost use Rattle.c65_base.specs.declared.refusal.Refusal.TheVariants.{OutOfMemory};
-ghost use Rattle.c65_lex.specs.Cells;
-ghost use Rattle.c65_macro.specs.Table;
+ghost use Rattle.c65_ppfile.specs.Counts.{Serves, outside};
 ghost use Rattle.c65_ppline.specs.Causes.{Stops};
+ghost use Rattle.c65_ppline.specs.NumberLines.{own_count};
+ghost use Rattle.c65_ppline.specs.Relations.{Comes};
+ghost use Rattle.c65_ppdir.specs.Files.{OrFree, Reads, opened_as};
 ghost use Rattle.c65_ppdir.specs.Gathering;
 ghost use Rattle.c65_ppdir.specs.Gathering.{IsLineRead, gathering};
 ghost use Rattle.c65_ppdir.specs.Opening;
 ghost use Rattle.c65_ppdir.specs.Opening.{IsReadNext, IsSeenNext, skipped};
-ghost use Rattle.c65_ppline.specs.Relations.{Comes};
+ghost use Rattle.c65_pptext.specs.Reading.{Held};
 
-use c65_base::{Name, Names, Pos, Refusal, Size};
-use c65_lex::{Lexer, PpKind, PpToken, PpTokens};
-use c65_ppline::{Count, Cut, Groups, Lexed, Line, is_mark, is_word, next_token};
+use c65_base::{Name, Names, Pos, Refusal, Text};
+use c65_io::Files;
+use c65_lex::{PpToken, PpTokens};
+use c65_ppline::{Count, Cut, Groups, Line, is_mark, is_word};
+use c65_pptext::{FileText, Read};
 use std::alloc::Global;
 
 /// A file that is open.
 #[derive(Drop)]
 pub struct Opened {
-    lexer: Lexer,
-    ending: Ending,
+    /// What is left of its text.
+    pub text: FileText,
     /// Its number in the unit's list.
     pub number: u64,
     /// Its name as a string literal.
     pub literal: Name,
     pub count: Count,
     pub groups: Groups,
-}
-
-/// Where the bytes that are kept of a file end.
-#[derive(Clone, Copy)]
-enum Ending {
-    /// At the file's end.
-    Whole,
-    /// Where a line ends, and more bytes follow than a file may have.
-    BetweenLines,
-    /// Within a line, which goes on with bytes that a file may not have.
-    InLine,
-}
-
-/// What is read next.
-#[derive(Drop)]
-pub enum Read {
-    Token(PpToken),
-    LineEnd(PpToken),
-    /// The file's end.
-    End,
-    /// What cuts the line off. Where the file is too long the token before may go on.
-    Cut(Cut),
 }
 
 /// What is read next of lines that are skipped.
@@ -59,101 +41,6 @@ pub enum Unseen {
     LineEnd,
     End,
     Cut(Cut),
-}
-
-/// Whether a text ends with a byte.
-fn ends_with(byte: u8, text: &[u8]) -> bool
-    ensures { result ≡ Cells.begins_with byte (reverse text.now) }
-{
-    match text.split_last() {
-        Some((last, _)) => *last == byte,
-        None => false,
-    }
-}
-
-/// Whether a line feed behind these bytes joins two lines.
-fn joins(text: &[u8]) -> bool
-    ensures { result ≡ Opening.joins (reverse text.now) }
-{
-    match text.split_last() {
-        Some((last, front)) => *last == b'\\' || (*last == b'\r' && ends_with(b'\\', front)),
-        None => false,
-    }
-}
-
-/// Where these bytes end, behind which more follow.
-fn ending_of(text: &[u8]) -> Ending
-    ensures { result ≡ Opening.ending_of text.now }
-{
-    match text.split_last() {
-        Some((last, front)) if *last == b'\n' && !joins(front) => Ending::BetweenLines,
-        _ => Ending::InLine,
-    }
-}
-
-/// Where the bytes that are kept of so many end.
-fn ending_where(size: usize, kept: &[u8]) -> Ending
-    ensures { result ≡ Opening.ending_where size kept.now }
-{
-    if size as u64 > Size::File.number() {
-        ending_of(kept)
-    } else {
-        Ending::Whole
-    }
-}
-
-fn is_line_end(token: &PpToken) -> bool
-    ensures { result ≡ Table.is_line_end token.now }
-{
-    match token.kind {
-        PpKind::LineEnd => true,
-        _ => false,
-    }
-}
-
-/// What a cut is of a file with more bytes than are kept.
-fn beyond(cut: Cut) -> Cut
-    ensures { result ≡ Opening.beyond cut }
-{
-    match cut {
-        Cut::OpenComment(_) => Cut::LongFile,
-        other => other,
-    }
-}
-
-impl Ending {
-    fn is_whole(self) -> bool
-        ensures { result ≡ Opening.is_whole self }
-    {
-        match self {
-            Ending::Whole => true,
-            Ending::BetweenLines | Ending::InLine => false,
-        }
-    }
-
-    fn is_in_line(self) -> bool
-        ensures { result ≡ Opening.is_in_line self }
-    {
-        match self {
-            Ending::InLine => true,
-            Ending::Whole | Ending::BetweenLines => false,
-        }
-    }
-}
-
-/// What a token is of a file of which it ends the last line that is kept, or a line before.
-fn read_of(ending: Ending, is_cut_off: bool, lexed: Lexed) -> Read
-    ensures { result ≡ Opening.read_of ending is_cut_off lexed }
-{
-    match lexed {
-        Lexed::Token(token) if !is_line_end(&token) => Read::Token(token),
-        Lexed::Token(_) if is_cut_off => Read::Cut(Cut::LongFile),
-        Lexed::Token(token) => Read::LineEnd(token),
-        Lexed::End if ending.is_whole() => Read::End,
-        Lexed::End => Read::Cut(Cut::LongFile),
-        Lexed::Cut(cut) if ending.is_whole() => Read::Cut(cut),
-        Lexed::Cut(cut) => Read::Cut(beyond(cut)),
-    }
 }
 
 /// What was read of a line that is skipped.
@@ -216,68 +103,65 @@ fn cut_line(hash: Pos, tokens: Vec<PpToken>, cut: Cut) -> Line
 }
 
 impl Opened {
-    /// A file with this text, of which one byte more than a file may have is kept.
-    pub fn new(alloc: Global, text: Vec<u8>, number: u64, literal: Name) -> Opened
-        ensures { result ≡ Opening.opened number literal text.items }
+    /// A file with this text.
+    pub fn new(alloc: Global, text: FileText, number: u64, literal: Name) -> Opened
+        ensures { result ≡ record { text = text; number = number; literal = literal; count = own_count; groups = [] } }
     {
-        let mut text = text;
-        let size = text.len();
-        text.truncate(Size::File.number() as usize);
-        let ending = ending_where(size, &text);
-        let lexer = Lexer::new(alloc, text, number);
-        let count = Count::own();
-        let groups = Groups::new(alloc);
         Opened {
-            lexer,
-            ending,
+            text,
             number,
             literal,
-            count,
-            groups,
+            count: Count::own(),
+            groups: Groups::new(alloc),
         }
     }
 
-    /// Whether the end of the bytes that are kept is the end of no line, and the text is there.
-    fn is_cut_off(&self) -> bool
-        ensures { result ≡ Opening.is_cut_off self.now.ending self.now.lexer.cells }
+    /// Reads a token, and what is needed of the file.
+    pub fn read<F: Files>(
+        &mut self,
+        files: &mut F,
+        folders: &[Text],
+        names: &mut Names,
+        header: bool,
+    ) -> Result<Read, Refusal>
+        ensures serves { Serves folders.now (outside (F.contents files.old) (F.write_faults files.old) (F.faults files.old) (F.misses files.old))
+            (outside (F.contents files.new) (F.write_faults files.new) (F.faults files.new) (F.misses files.new)) result }
+        ensures exact { (held : Held) → F.contents files.old ≡ Some held → Reads held self.old self.new (OrFree (λ r. IsReadNext header (opened_as held self.old) names.old r (opened_as held self.new) names.new) result) result }
     {
-        if self.ending.is_in_line() {
-            self.lexer.is_at_end()
-        } else {
-            false
-        }
+        self.text.read(files, folders, names, header)
     }
 
-    /// Reads a token. Only want of memory is an error.
-    pub fn read(&mut self, names: &mut Names, header: bool) -> Result<Read, Refusal>
-        ensures refused { IfErr result (λ e. e ≡ OutOfMemory) }
-        ensures exact { IfOk result (λ r. IsReadNext header self.old names.old r self.new names.new) }
-    {
-        match next_token(&mut self.lexer, names, header) {
-            Ok(lexed) => Ok(read_of(self.ending, self.is_cut_off(), lexed)),
-            Err(refusal) => Err(refusal),
-        }
-    }
-
-    /// Reads a token of a line that is skipped, whose spelling gets no name. Only want of memory is an error.
-    pub fn read_unseen(&mut self, alloc: Global) -> Result<Unseen, Refusal>
-        ensures refused { IfErr result (λ e. e ≡ OutOfMemory) }
-        ensures exact { IfOk result (λ u. IsSeenNext self.old u self.new) }
+    /// Reads a token of a line that is skipped, whose spelling gets no name.
+    pub fn read_unseen<F: Files>(
+        &mut self,
+        files: &mut F,
+        folders: &[Text],
+        alloc: Global,
+    ) -> Result<Unseen, Refusal>
+        ensures serves { Serves folders.now (outside (F.contents files.old) (F.write_faults files.old) (F.faults files.old) (F.misses files.old))
+            (outside (F.contents files.new) (F.write_faults files.new) (F.faults files.new) (F.misses files.new)) result }
+        ensures exact { (held : Held) → F.contents files.old ≡ Some held → Reads held self.old self.new (OrFree (λ u. IsSeenNext (opened_as held self.old) u (opened_as held self.new)) result) result }
     {
         let mut names = Names::new(alloc);
-        match self.read(&mut names, false) {
+        match self.read(files, folders, &mut names, false) {
             Ok(read) => Ok(unseen_of(&names, read)),
             Err(refusal) => Err(refusal),
         }
     }
 
     /// Skips the rest of a line.
-    pub fn skip_line(&mut self, alloc: Global) -> Result<(), Refusal>
-        ensures stops { IfErr result Stops }
-        ensures exact { Comes (λ _. self.new) (skipped self.old) result }
+    pub fn skip_line<F: Files>(
+        &mut self,
+        files: &mut F,
+        folders: &[Text],
+        alloc: Global,
+    ) -> Result<(), Refusal>
+        ensures serves { Serves folders.now (outside (F.contents files.old) (F.write_faults files.old) (F.faults files.old) (F.misses files.old))
+            (outside (F.contents files.new) (F.write_faults files.new) (F.faults files.new) (F.misses files.new)) result }
+        ensures exact { (held : Held) → F.contents files.old ≡ Some held → Reads held self.old self.new (Comes (λ _. opened_as held self.new) (skipped (opened_as held self.old)) result) result }
     {
         for _ in 0..u64::MAX {
-            match self.read_unseen(alloc) {
+            match self.read_unseen(files, folders, alloc) {
                 Ok(read) => match has_more(read) {
                     Ok(is_more) => {
                         if !is_more {
@@ -292,20 +176,23 @@ impl Opened {
         Err(Refusal::OutOfMemory)
     }
 
-    /// Reads the line behind a #. A header name may stand behind `include`. Only want of memory is an error.
-    pub fn read_line(
+    /// Reads the line behind a #. A header name may stand behind `include`.
+    pub fn read_line<F: Files>(
         &mut self,
+        files: &mut F,
+        folders: &[Text],
         alloc: Global,
         names: &mut Names,
         hash: Pos,
     ) -> Result<Line, Refusal>
-        ensures refused { IfErr result (λ e. e ≡ OutOfMemory) }
-        ensures exact { IfOk result (λ line. IsLineRead hash self.old names.old (gathering line self.new names.new)) }
+        ensures serves { Serves folders.now (outside (F.contents files.old) (F.write_faults files.old) (F.faults files.old) (F.misses files.old))
+            (outside (F.contents files.new) (F.write_faults files.new) (F.faults files.new) (F.misses files.new)) result }
+        ensures exact { (held : Held) → F.contents files.old ≡ Some held → Reads held self.old self.new (OrFree (λ line. IsLineRead hash (opened_as held self.old) names.old (gathering line (opened_as held self.new) names.new)) result) result }
     {
         let mut tokens: Vec<PpToken> = Vec::new(alloc);
         for _ in 0..u64::MAX {
             let header = allows_header(names, &tokens);
-            match self.read(names, header) {
+            match self.read(files, folders, names, header) {
                 Ok(Read::Token(token)) => tokens.push(token)?,
                 Ok(Read::LineEnd(token)) => return Ok(whole_line(hash, tokens, token.pos.line)),
                 Ok(Read::End) => return Ok(whole_line(hash, tokens, hash.line)),

@@ -1,10 +1,13 @@
 // Reading the lines of a file: the macros, the tokens so far, and what each line does.
-ghost use Rattle.std.specs.Prelude.{◌≡◌, ◌⊎◌, [], if◌then◌else◌, unwrap_or, IfErr, OnOk};
+ghost use Rattle.std.specs.Prelude.{◌≡◌, ◌⊎◌, [], Some, if◌then◌else◌, unwrap_or, IfErr, OnOk};
 ghost use Rattle.c65_base.specs.Answers.{Gives};
 ghost use Rattle.c65_base.specs.declared.refusal.Refusal.TheVariants.{OutOfMemory};
 ghost use Rattle.c65_ppline.specs.Causes.{Stops};
 ghost use Rattle.c65_ppline.specs.Conditions;
 ghost use Rattle.c65_ppline.specs.DirectiveLines.{IsDeed};
+ghost use Rattle.c65_ppdir.specs.Files.{Reads};
+ghost use Rattle.c65_ppfile.specs.Counts.{Serves, outside};
+ghost use Rattle.c65_pptext.specs.Reading.{Held};
 ghost use Rattle.c65_ppdir.specs.LineActions;
 ghost use Rattle.c65_ppline.specs.MacroLines;
 ghost use Rattle.c65_ppline.specs.NumberLines;
@@ -12,9 +15,10 @@ ghost use Rattle.c65_ppdir.specs.Progress;
 ghost use Rattle.c65_ppdir.specs.Progress.{progress, flushed, Settles};
 ghost use Rattle.c65_ppline.specs.Relations.{Comes, IsFree};
 
-use crate::opened::{Opened, Read, Unseen};
+use crate::opened::{Opened, Unseen};
 use crate::tokens::Output;
-use c65_base::{Code, Name, Names, Pos, Refusal};
+use c65_base::{Code, Name, Names, Pos, Refusal, Text};
+use c65_io::Files;
 use c65_lex::{PpToken, PpTokens};
 use c65_macro::Macros;
 use c65_ppexpr::condition_line;
@@ -23,6 +27,7 @@ use c65_ppline::{
     Count, Deed, Groups, Line, Part, Test, deed_of, define_line, head_of, is_mark, is_word,
     number_line, part_of, read_only_name, undef_line,
 };
+use c65_pptext::Read;
 use std::alloc::Global;
 
 /// What a line asks for.
@@ -76,7 +81,7 @@ impl Reader {
     /// Ends the list and gives its expansion to the unit.
     fn flush(&mut self, names: &mut Names) -> Result<(), Refusal>
         ensures stops { IfErr result Stops }
-        ensures exact { (file : Opened) → Comes (λ _. progress self.new file names.new) (flushed (progress self.old file names.old)) result }
+        ensures exact { (held : Held) (file : Opened) → Comes (λ _. progress held self.new file names.new) (flushed (progress held self.old file names.old)) result }
     {
         self.output.flush(&self.macros, names)
     }
@@ -85,7 +90,7 @@ impl Reader {
     fn settle(&mut self, names: &mut Names, fault: Refusal) -> Refusal
         requires { Stops fault }
         ensures stops { Stops result }
-        ensures exact { (file : Opened) → IsFree result ⊎ Settles fault (progress self.old file names.old) result }
+        ensures exact { (held : Held) (file : Opened) → IsFree result ⊎ Settles fault (progress held self.old file names.old) result }
     {
         match self.flush(names) {
             Ok(()) => fault,
@@ -94,28 +99,42 @@ impl Reader {
     }
 
     /// The next line of a file.
-    pub fn turn(&mut self, file: &mut Opened, names: &mut Names) -> Result<Turn, Refusal>
-        ensures stops { IfErr result Stops }
-        ensures exact { Comes (λ t. (t, progress self.new file.new names.new)) (LineActions.turn (progress self.old file.old names.old)) result }
+    pub fn turn<F: Files>(
+        &mut self,
+        files: &mut F,
+        folders: &[Text],
+        file: &mut Opened,
+        names: &mut Names,
+    ) -> Result<Turn, Refusal>
+        ensures serves { Serves folders.now (outside (F.contents files.old) (F.write_faults files.old) (F.faults files.old) (F.misses files.old))
+            (outside (F.contents files.new) (F.write_faults files.new) (F.faults files.new) (F.misses files.new)) result }
+        ensures exact { (held : Held) → F.contents files.old ≡ Some held → Reads held file.old file.new (Comes (λ t. (t, progress held self.new file.new names.new)) (LineActions.turn (progress held self.old file.old names.old)) result) result }
     {
         if file.groups.is_active() {
-            self.active(file, names)
+            self.active(files, folders, file, names)
         } else {
-            self.inactive(file, names)
+            self.inactive(files, folders, file, names)
         }
     }
 
     /// A line that is read.
-    fn active(&mut self, file: &mut Opened, names: &mut Names) -> Result<Turn, Refusal>
-        ensures stops { IfErr result Stops }
-        ensures exact { Comes (λ t. (t, progress self.new file.new names.new)) (LineActions.active (progress self.old file.old names.old)) result }
+    fn active<F: Files>(
+        &mut self,
+        files: &mut F,
+        folders: &[Text],
+        file: &mut Opened,
+        names: &mut Names,
+    ) -> Result<Turn, Refusal>
+        ensures serves { Serves folders.now (outside (F.contents files.old) (F.write_faults files.old) (F.faults files.old) (F.misses files.old))
+            (outside (F.contents files.new) (F.write_faults files.new) (F.faults files.new) (F.misses files.new)) result }
+        ensures exact { (held : Held) → F.contents files.old ≡ Some held → Reads held file.old file.new (Comes (λ t. (t, progress held self.new file.new names.new)) (LineActions.active (progress held self.old file.old names.old)) result) result }
     {
-        match file.read(names, false) {
+        match file.read(files, folders, names, false) {
             Ok(Read::Token(token)) => {
                 if is_mark(names, &token, b"#") {
-                    self.behind_list(file, names, token.pos)
+                    self.behind_list(files, folders, file, names, token.pos)
                 } else {
-                    self.text(file, names, token)
+                    self.text(files, folders, file, names, token)
                 }
             }
             Ok(Read::LineEnd(token)) => match self.output.add(token) {
@@ -129,48 +148,61 @@ impl Reader {
     }
 
     /// The directive that ends a list, with its # at this place.
-    fn behind_list(
+    fn behind_list<F: Files>(
         &mut self,
+        files: &mut F,
+        folders: &[Text],
         file: &mut Opened,
         names: &mut Names,
         hash: Pos,
     ) -> Result<Turn, Refusal>
-        ensures stops { IfErr result Stops }
-        ensures exact { Comes (λ t. (t, progress self.new file.new names.new)) (LineActions.behind_list hash (progress self.old file.old names.old)) result }
+        ensures serves { Serves folders.now (outside (F.contents files.old) (F.write_faults files.old) (F.faults files.old) (F.misses files.old))
+            (outside (F.contents files.new) (F.write_faults files.new) (F.faults files.new) (F.misses files.new)) result }
+        ensures exact { (held : Held) → F.contents files.old ≡ Some held → Reads held file.old file.new (Comes (λ t. (t, progress held self.new file.new names.new)) (LineActions.behind_list hash (progress held self.old file.old names.old)) result) result }
     {
         match self.flush(names) {
-            Ok(()) => self.directive(file, names, hash),
+            Ok(()) => self.directive(files, folders, file, names, hash),
             Err(refusal) => Err(refusal),
         }
     }
 
     /// A line that is no directive, with its first token.
-    fn text(
+    fn text<F: Files>(
         &mut self,
+        files: &mut F,
+        folders: &[Text],
         file: &mut Opened,
         names: &mut Names,
         token: PpToken,
     ) -> Result<Turn, Refusal>
-        ensures stops { IfErr result Stops }
-        ensures exact { Comes (λ t. (t, progress self.new file.new names.new)) (LineActions.text token (progress self.old file.old names.old)) result }
+        ensures serves { Serves folders.now (outside (F.contents files.old) (F.write_faults files.old) (F.faults files.old) (F.misses files.old))
+            (outside (F.contents files.new) (F.write_faults files.new) (F.faults files.new) (F.misses files.new)) result }
+        ensures exact { (held : Held) → F.contents files.old ≡ Some held → Reads held file.old file.new (Comes (λ t. (t, progress held self.new file.new names.new)) (LineActions.text token (progress held self.old file.old names.old)) result) result }
     {
         match self.output.add(token) {
             Ok(()) => {}
             Err(refusal) => return Err(refusal),
         }
-        match self.text_line(file, names) {
+        match self.text_line(files, folders, file, names) {
             Ok(()) => Ok(Turn::Line),
             Err(refusal) => Err(refusal),
         }
     }
 
     /// The rest of a line that is no directive.
-    fn text_line(&mut self, file: &mut Opened, names: &mut Names) -> Result<(), Refusal>
-        ensures stops { IfErr result Stops }
-        ensures exact { Comes (λ _. progress self.new file.new names.new) (LineActions.text_line (progress self.old file.old names.old)) result }
+    fn text_line<F: Files>(
+        &mut self,
+        files: &mut F,
+        folders: &[Text],
+        file: &mut Opened,
+        names: &mut Names,
+    ) -> Result<(), Refusal>
+        ensures serves { Serves folders.now (outside (F.contents files.old) (F.write_faults files.old) (F.faults files.old) (F.misses files.old))
+            (outside (F.contents files.new) (F.write_faults files.new) (F.faults files.new) (F.misses files.new)) result }
+        ensures exact { (held : Held) → F.contents files.old ≡ Some held → Reads held file.old file.new (Comes (λ _. progress held self.new file.new names.new) (LineActions.text_line (progress held self.old file.old names.old)) result) result }
     {
         for _ in 0..u64::MAX {
-            match file.read(names, false) {
+            match file.read(files, folders, names, false) {
                 Ok(Read::Token(token)) => match self.output.add(token) {
                     Ok(()) => {}
                     Err(refusal) => return Err(refusal),
@@ -188,16 +220,23 @@ impl Reader {
     }
 
     /// A line that is skipped unless it is a directive.
-    fn inactive(&mut self, file: &mut Opened, names: &mut Names) -> Result<Turn, Refusal>
-        ensures stops { IfErr result Stops }
-        ensures exact { Comes (λ t. (t, progress self.new file.new names.new)) (LineActions.inactive (progress self.old file.old names.old)) result }
+    fn inactive<F: Files>(
+        &mut self,
+        files: &mut F,
+        folders: &[Text],
+        file: &mut Opened,
+        names: &mut Names,
+    ) -> Result<Turn, Refusal>
+        ensures serves { Serves folders.now (outside (F.contents files.old) (F.write_faults files.old) (F.faults files.old) (F.misses files.old))
+            (outside (F.contents files.new) (F.write_faults files.new) (F.faults files.new) (F.misses files.new)) result }
+        ensures exact { (held : Held) → F.contents files.old ≡ Some held → Reads held file.old file.new (Comes (λ t. (t, progress held self.new file.new names.new)) (LineActions.inactive (progress held self.old file.old names.old)) result) result }
     {
-        match file.read_unseen(self.alloc) {
-            Ok(Unseen::Hash(pos)) => match self.passed(file, names, pos) {
+        match file.read_unseen(files, folders, self.alloc) {
+            Ok(Unseen::Hash(pos)) => match self.passed(files, folders, file, names, pos) {
                 Ok(()) => Ok(Turn::Line),
                 Err(refusal) => Err(refusal),
             },
-            Ok(Unseen::Token) => match file.skip_line(self.alloc) {
+            Ok(Unseen::Token) => match file.skip_line(files, folders, self.alloc) {
                 Ok(()) => Ok(Turn::Line),
                 Err(refusal) => Err(refusal),
             },
@@ -211,7 +250,7 @@ impl Reader {
     /// Ends a file.
     fn close(&mut self, file: &Opened, names: &mut Names) -> Result<Turn, Refusal>
         ensures stops { IfErr result Stops }
-        ensures exact { Comes (λ t. (t, progress self.new file.now names.new)) (LineActions.closed (progress self.old file.now names.old)) result }
+        ensures exact { (held : Held) → Comes (λ t. (t, progress held self.new file.now names.new)) (LineActions.closed (progress held self.old file.now names.old)) result }
     {
         match file.groups.first_open() {
             Some(pos) => Err(self.settle(names, Refusal::fault(Code::OpenConditional, pos))),
@@ -223,16 +262,19 @@ impl Reader {
     }
 
     /// A directive with its # at this place.
-    fn directive(
+    fn directive<F: Files>(
         &mut self,
+        files: &mut F,
+        folders: &[Text],
         file: &mut Opened,
         names: &mut Names,
         hash: Pos,
     ) -> Result<Turn, Refusal>
-        ensures stops { IfErr result Stops }
-        ensures exact { Comes (λ t. (t, progress self.new file.new names.new)) (LineActions.directive hash (progress self.old file.old names.old)) result }
+        ensures serves { Serves folders.now (outside (F.contents files.old) (F.write_faults files.old) (F.faults files.old) (F.misses files.old))
+            (outside (F.contents files.new) (F.write_faults files.new) (F.faults files.new) (F.misses files.new)) result }
+        ensures exact { (held : Held) → F.contents files.old ≡ Some held → Reads held file.old file.new (Comes (λ t. (t, progress held self.new file.new names.new)) (LineActions.directive hash (progress held self.old file.old names.old)) result) result }
     {
-        match file.read_line(self.alloc, names, hash) {
+        match file.read_line(files, folders, self.alloc, names, hash) {
             Ok(line) => {
                 let deed = deed_of(hash, head_of(names, line.tokens.as_slice()));
                 self.obey(file, names, deed, line)
@@ -251,7 +293,8 @@ impl Reader {
     ) -> Result<Turn, Refusal>
         requires { IsDeed deed }
         ensures stops { IfErr result Stops }
-        ensures exact { Comes (λ t. (t, progress self.new file.new names.new)) (LineActions.obeyed deed line (progress self.old file.old names.old)) result }
+        ensures exact { (held : Held) → Comes (λ t. (t, progress held self.new file.new names.new)) (LineActions.obeyed deed line (progress held self.old file.old names.old)) result }
+        ensures text { file.new.text ≡ file.old.text }
     {
         match deed {
             Deed::Include => match include_line(self.alloc, &self.macros, names, line) {
@@ -269,11 +312,19 @@ impl Reader {
     }
 
     /// A directive among lines that are skipped.
-    fn passed(&mut self, file: &mut Opened, names: &mut Names, hash: Pos) -> Result<(), Refusal>
-        ensures stops { IfErr result Stops }
-        ensures exact { Comes (λ _. progress self.new file.new names.new) (LineActions.passed hash (progress self.old file.old names.old)) result }
+    fn passed<F: Files>(
+        &mut self,
+        files: &mut F,
+        folders: &[Text],
+        file: &mut Opened,
+        names: &mut Names,
+        hash: Pos,
+    ) -> Result<(), Refusal>
+        ensures serves { Serves folders.now (outside (F.contents files.old) (F.write_faults files.old) (F.faults files.old) (F.misses files.old))
+            (outside (F.contents files.new) (F.write_faults files.new) (F.faults files.new) (F.misses files.new)) result }
+        ensures exact { (held : Held) → F.contents files.old ≡ Some held → Reads held file.old file.new (Comes (λ _. progress held self.new file.new names.new) (LineActions.passed hash (progress held self.old file.old names.old)) result) result }
     {
-        match file.read_line(self.alloc, names, hash) {
+        match file.read_line(files, folders, self.alloc, names, hash) {
             Ok(line) => match part_of(head_of(names, line.tokens.as_slice())) {
                 Some(part) => self.part(file, names, part, line),
                 None => line.check(),
@@ -291,7 +342,8 @@ impl Reader {
         line: Line,
     ) -> Result<(), Refusal>
         ensures stops { IfErr result Stops }
-        ensures exact { Comes (λ _. progress self.new file.new names.new) (LineActions.parted part line (progress self.old file.old names.old)) result }
+        ensures exact { (held : Held) → Comes (λ _. progress held self.new file.new names.new) (LineActions.parted part line (progress held self.old file.old names.old)) result }
+        ensures text { file.new.text ≡ file.old.text }
     {
         match part {
             Part::Begin(test) => match file.groups.begin(line.hash) {
@@ -323,7 +375,8 @@ impl Reader {
         is_read: bool,
     ) -> Result<(), Refusal>
         ensures stops { IfErr result Stops }
-        ensures exact { Comes (λ _. progress self.new file.new names.new) (LineActions.begun_if is_read test line (progress self.old file.old names.old)) result }
+        ensures exact { (held : Held) → Comes (λ _. progress held self.new file.new names.new) (LineActions.begun_if is_read test line (progress held self.old file.old names.old)) result }
+        ensures text { file.new.text ≡ file.old.text }
     {
         if is_read {
             self.decide(file, names, test, line)
@@ -341,7 +394,8 @@ impl Reader {
         line: Line,
     ) -> Result<(), Refusal>
         ensures stops { IfErr result Stops }
-        ensures exact { Comes (λ _. progress self.new file.new names.new) (LineActions.decided test line (progress self.old file.old names.old)) result }
+        ensures exact { (held : Held) → Comes (λ _. progress held self.new file.new names.new) (LineActions.decided test line (progress held self.old file.old names.old)) result }
+        ensures text { file.new.text ≡ file.old.text }
     {
         match test {
             Test::Condition => match condition_line(self.alloc, &self.macros, names, line) {
@@ -362,7 +416,8 @@ impl Reader {
     /// Does a #line line.
     fn renumber(&mut self, file: &mut Opened, names: &mut Names, line: Line) -> Result<(), Refusal>
         ensures stops { IfErr result Stops }
-        ensures exact { Comes (λ _. progress self.new file.new names.new) (LineActions.renumbering line (progress self.old file.old names.old)) result }
+        ensures exact { (held : Held) → Comes (λ _. progress held self.new file.new names.new) (LineActions.renumbering line (progress held self.old file.old names.old)) result }
+        ensures text { file.new.text ≡ file.old.text }
     {
         let real = line.end;
         match number_line(&self.macros, names, line) {

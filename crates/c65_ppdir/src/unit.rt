@@ -1,5 +1,8 @@
 // The lines of a unit: the files that are open, and what the reading of the innermost one asks for.
-ghost use Rattle.std.specs.Prelude.{◌≡◌, ℕ, List, ◌++◌, reverse, IfErr, IfOk, OnOk};
+ghost use Rattle.std.specs.Prelude.{◌≡◌, ◌≤◌, ℕ, List, ◌++◌, length, map, reverse, Some, IfErr, IfOk, OnOk};
+ghost use Rattle.c65_ppfile.specs.Counts.{Serves, outside};
+ghost use Rattle.c65_pptext.specs.Reading.{Held, IsTold, text_as, text_of};
+ghost use Rattle.c65_ppdir.specs.Files.{AreTold, IsToldFile, ReadsUnit, opened_as};
 ghost use Rattle.c65_ppline.specs.Causes.{Stops};
 ghost use Rattle.c65_ppfile.specs.Headers;
 ghost use Rattle.c65_ppdir.specs.Progress.{progress};
@@ -8,11 +11,13 @@ ghost use Rattle.c65_ppdir.specs.Standing;
 
 use crate::opened::Opened;
 use crate::reader::{Reader, Turn};
-use c65_base::{Name, Names, Options, Refusal, Size};
+use c65_base::{Name, Names, Options, Refusal, Size, Text};
+use c65_io::Files;
 use c65_lex::PpTokens;
 use c65_macro::Macros;
 use c65_ppfile::{BuiltIn, Header, Included};
 use c65_ppline::intern;
+use c65_pptext::FileText;
 use std::alloc::{AllocError, Global};
 use std::mem;
 
@@ -82,10 +87,11 @@ impl Unit {
         macros: Macros,
         names: &mut Names,
         path: &[u8],
-        text: Vec<u8>,
+        text: FileText,
     ) -> Result<Unit, Refusal>
         ensures stops { IfErr result Stops }
-        ensures exact { Comes (λ u. Standing.standing u.reader u.file u.outer.items u.included.headers.items names.new) (Standing.first_standing macros path.now text.items names.old) result }
+        ensures told { IfOk result (λ u. (held : Held) → IsTold held text → IsToldFile held u.file × AreTold held u.outer.items) }
+        ensures exact { (held : Held) (bytes : List ℕ) → text_as held text ≡ text_of 0 bytes → Comes (λ u. Standing.standing held u.reader u.file u.outer.items u.included.headers.items names.new) (Standing.first_standing macros path.now bytes names.old) result }
         ensures signed { IfOk result (λ u. u.included.is_char_signed ≡ options.now.signed_chars) }
     {
         let literal = match literal_name(alloc, names, path) {
@@ -108,13 +114,14 @@ impl Unit {
 
     /// Whether one more file may be open.
     pub fn has_room(&self) -> bool
-        ensures { (names : List (List ℕ)) → result ≡ Standing.has_room (Standing.standing self.now.reader self.now.file self.now.outer.items self.now.included.headers.items names) }
+        ensures { (held : Held) (names : List (List ℕ)) → result ≡ Standing.has_room (Standing.standing held self.now.reader self.now.file self.now.outer.items self.now.included.headers.items names) }
     {
         (self.outer.len() as u64) + 1 < Size::Includes.number()
     }
 
     /// The text of a built-in header at its inclusion.
     pub fn built_in(&mut self, header: BuiltIn) -> Result<Vec<u8>, AllocError>
+        ensures short { IfOk result (λ text. length text.items ≤ 4096) }
         ensures text { IfOk result (λ text. text.items ≡ Headers.text_behind self.old.included.is_char_signed self.old.included.headers.items header) }
         ensures headers { OnOk result (self.new.included.headers.items ≡ Headers.with_header self.old.included.headers.items header) }
         ensures same { (self.new.reader ≡ self.old.reader) × (self.new.file ≡ self.old.file) × (self.new.outer ≡ self.old.outer) × (self.new.included.is_char_signed ≡ self.old.included.is_char_signed) }
@@ -127,11 +134,12 @@ impl Unit {
         &mut self,
         names: &mut Names,
         path: &[u8],
-        text: Vec<u8>,
+        text: FileText,
         number: u64,
     ) -> Result<(), Refusal>
         ensures stops { IfErr result Stops }
-        ensures exact { Comes (λ _. Standing.standing self.new.reader self.new.file self.new.outer.items self.new.included.headers.items names.new) (Standing.opening number path.now text.items (Standing.standing self.old.reader self.old.file self.old.outer.items self.old.included.headers.items names.old)) result }
+        ensures told { OnOk result ((held : Held) → IsTold held text → IsToldFile held self.old.file → AreTold held self.old.outer.items → IsToldFile held self.new.file × AreTold held self.new.outer.items) }
+        ensures exact { (held : Held) (bytes : List ℕ) → text_as held text ≡ text_of number bytes → Comes (λ _. Standing.standing held self.new.reader self.new.file self.new.outer.items self.new.included.headers.items names.new) (Standing.opening number path.now bytes (Standing.standing held self.old.reader self.old.file self.old.outer.items self.old.included.headers.items names.old)) result }
         ensures signed { self.new.included.is_char_signed ≡ self.old.included.is_char_signed }
     {
         let literal = match literal_name(self.alloc, names, path) {
@@ -146,13 +154,19 @@ impl Unit {
     }
 
     /// Reads a line of the innermost file.
-    pub fn advance(&mut self, names: &mut Names) -> Result<Event, Refusal>
-        ensures stops { IfErr result Stops }
-        ensures exact { Comes (λ e. (e, Standing.standing self.new.reader self.new.file self.new.outer.items self.new.included.headers.items names.new)) (Standing.advanced (Standing.standing self.old.reader self.old.file self.old.outer.items self.old.included.headers.items names.old)) result }
+    pub fn advance<F: Files>(
+        &mut self,
+        files: &mut F,
+        folders: &[Text],
+        names: &mut Names,
+    ) -> Result<Event, Refusal>
+        ensures serves { Serves folders.now (outside (F.contents files.old) (F.write_faults files.old) (F.faults files.old) (F.misses files.old))
+            (outside (F.contents files.new) (F.write_faults files.new) (F.faults files.new) (F.misses files.new)) result }
+        ensures exact { (held : Held) → F.contents files.old ≡ Some held → ReadsUnit held self.old.file self.old.outer.items self.new.file self.new.outer.items (Comes (λ e. (e, Standing.standing held self.new.reader self.new.file self.new.outer.items self.new.included.headers.items names.new)) (Standing.advanced (Standing.standing held self.old.reader self.old.file self.old.outer.items self.old.included.headers.items names.old)) result) result }
         ensures signed { self.new.included.is_char_signed ≡ self.old.included.is_char_signed }
     {
         let number = self.file.number;
-        match self.reader.turn(&mut self.file, names) {
+        match self.reader.turn(files, folders, &mut self.file, names) {
             Ok(Turn::Line) => Ok(Event::Line),
             Ok(Turn::Include(header)) => Ok(Event::Include(header, number)),
             Ok(Turn::FileEnd) => Ok(self.leave()),
@@ -162,7 +176,8 @@ impl Unit {
 
     /// Goes back to the file that includes the innermost one.
     fn leave(&mut self) -> Event
-        ensures exact { (names : List (List ℕ)) → (result, Standing.standing self.new.reader self.new.file self.new.outer.items self.new.included.headers.items names) ≡ Standing.left (progress self.old.reader self.old.file names) (reverse self.old.outer.items) self.old.included.headers.items }
+        ensures told { (held : Held) → IsToldFile held self.old.file → AreTold held self.old.outer.items → IsToldFile held self.new.file × AreTold held self.new.outer.items }
+        ensures exact { (held : Held) (names : List (List ℕ)) → (result, Standing.standing held self.new.reader self.new.file self.new.outer.items self.new.included.headers.items names) ≡ Standing.left (progress held self.old.reader self.old.file names) (map (opened_as held) (reverse self.old.outer.items)) self.old.included.headers.items }
         ensures signed { self.new.included.is_char_signed ≡ self.old.included.is_char_signed }
     {
         match self.outer.pop() {

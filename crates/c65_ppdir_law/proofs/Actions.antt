@@ -17,8 +17,8 @@ use Rattle.c65_ppline.specs.declared.directive.Test.{Test}
 use Rattle.c65_ppline.specs.declared.directive.Test.TheVariants as tests
 use Rattle.c65_ppline.specs.declared.line.Cut.{Cut}
 use Rattle.c65_ppline.specs.declared.line.Line.{Line}
-use Rattle.c65_ppdir.specs.declared.opened.Read.{Read}
-use Rattle.c65_ppdir.specs.declared.opened.Read.TheVariants as reads
+use Rattle.c65_pptext.specs.declared.ending.Read.{Read}
+use Rattle.c65_pptext.specs.declared.ending.Read.TheVariants as reads
 use Rattle.c65_ppdir.specs.declared.opened.Unseen.{Unseen}
 use Rattle.c65_ppdir.specs.declared.opened.Unseen.TheVariants as unseens
 use Rattle.c65_ppdir.specs.declared.reader.Turn.TheVariants as turns

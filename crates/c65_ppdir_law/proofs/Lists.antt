@@ -2,9 +2,9 @@
 use Rattle.std.proofs.Common.{◌∙◌, ℕ, zero, suc, false, Result, Ok, Err, ap, sym}
 use Rattle.c65_base.specs.declared.refusal.Refusal.{Refusal}
 use Rattle.c65_base.specs.declared.refusal.Refusal.TheVariants as refusals
-use Rattle.c65_ppdir.specs.declared.opened.Opened.{Opened}
-use Rattle.c65_ppdir.specs.declared.opened.Read.{Read}
-use Rattle.c65_ppdir.specs.declared.opened.Read.TheVariants as reads
+use Rattle.c65_ppdir.specs.Files.{OpenFile}
+use Rattle.c65_pptext.specs.declared.ending.Read.{Read}
+use Rattle.c65_pptext.specs.declared.ending.Read.TheVariants as reads
 use Rattle.c65_ppdir.specs.Gathering.{used}
 use Rattle.c65_ppdir.specs.LineActions.{text_by, text_from, text_line, skipped_rest}
 use Rattle.c65_ppline.specs.Lines.{cut_refusal}
@@ -52,7 +52,7 @@ pub one_text_line : (p : Progress) → HasOne (text_line p)
 one_text_line p y z d e (n, a) (m, b) = alike_text n m p y z d e a b
 
 pub one_skipped_rest : (p : Progress) → HasOne (skipped_rest p)
-one_skipped_rest p (Ok q) (Ok q') d e (left, a, f) (left', b, g) = ap (λ (x : Progress). Ok x) (f ∙ (ap (λ (x : Opened). record p { file = x }) (is_value left left' (one_skipped p.file (Ok left) (Ok left') tt tt a b)) ∙ sym g))
+one_skipped_rest p (Ok q) (Ok q') d e (left, a, f) (left', b, g) = ap (λ (x : Progress). Ok x) (f ∙ (ap (λ (x : OpenFile). record p { file = x }) (is_value left left' (one_skipped p.file (Ok left) (Ok left') tt tt a b)) ∙ sym g))
 one_skipped_rest p (Ok q) (Err h) d e (left, a, f) b = absurd (no_value left h (one_skipped p.file (Ok left) (Err h) tt e a b))
 one_skipped_rest p (Err h) (Ok q) d e a (left, b, f) = absurd (no_value left h (sym (one_skipped p.file (Err h) (Ok left) d tt a b)))
 one_skipped_rest p (Err g) (Err h) d e a b = ap (λ (x : Refusal). Err x) (is_error g h (one_skipped p.file (Err g) (Err h) d e a b))

@@ -11,7 +11,7 @@ use Rattle.c65_ppfile.specs.declared.files.Found.TheVariants as kinds
 use Rattle.c65_ppfile.specs.declared.include.Header.{Header}
 use Rattle.c65_ppline.specs.Relations.{IsFree}
 use Rattle.c65_ppfile.specs.Search.{paths_of}
-use Rattle.c65_ppfile.specs.Finding.{TellsNothing, Begins, BeginsAt, or_next, first_held, IsFile, IsFirst, IsThere, IsSought, Seeks}
+use Rattle.c65_ppfile.specs.Finding.{Begins, BeginsAt, or_next, first_held, IsFile, IsFirst, IsThere, IsSought, Seeks}
 
 begins_there : (o : Option (List ℕ)) (into : List ℕ) (n : ℕ) → ReadsFrom o 0 into (Ok n) → Begins o (take n into)
 begins_there None into n h = absurd h
@@ -21,33 +21,6 @@ begins_there (Some bytes) into n h = (drop n bytes, sym (take-append-drop n byte
 pub begins_at : (c : Contents) (path into : List ℕ) (n : ℕ) → ReadsFile c path 0 into (Ok n) → BeginsAt c path (take n into)
 begins_at None path into n h = tt
 begins_at (Some held) path into n h = begins_there (held path) into n h
-
-goes_on_there : (o : Option (List ℕ)) (text into : List ℕ) (at n : ℕ) → at ≡ length text → Begins o text → ReadsFrom o at into (Ok n) → Begins o (text ++ take n into)
-goes_on_there None text into at n e b h = absurd h
-goes_on_there (Some bytes) text into at n e b h =
-    let behind : drop at bytes ≡ b.0 = ap (λ (k : ℕ). drop k bytes) e ∙ (ap (λ (xs : List ℕ). drop (length text) xs) b.1 ∙ drop-append_seam text b.0) in
-    let piece : take n into ≡ take n b.0 = h.0 ∙ ap (λ (xs : List ℕ). take n xs) behind in
-    (drop n b.0, b.1 ∙ (ap (λ (xs : List ℕ). text ++ xs) (sym (take-append-drop n b.0)) ∙ (sym (append_assoc text (take n b.0) (drop n b.0)) ∙ ap (λ (xs : List ℕ). (text ++ xs) ++ drop n b.0) (sym piece))))
-
-goes_on_at : (c : Contents) (path text into : List ℕ) (at n : ℕ) → at ≡ length text → BeginsAt c path text → ReadsFile c path at into (Ok n) → BeginsAt c path (text ++ take n into)
-goes_on_at None path text into at n e b h = tt
-goes_on_at (Some held) path text into at n e b h = goes_on_there (held path) text into at n e b h
-
--- a read behind what was read, of files that hold the same
-pub goes_on : (c d : Contents) (path text into : List ℕ) (at n : ℕ) → d ≡ c → at ≡ length text → BeginsAt c path text → ReadsFile d path at into (Ok n) → BeginsAt c path (text ++ take n into)
-goes_on c d path text into at n same e b h = goes_on_at c path text into at n e b (subst (λ (k : Contents). ReadsFile k path at into (Ok n)) same h)
-
-stays_there : (o : Option (List ℕ)) (text into : List ℕ) (at : ℕ) → Begins o text → ReadsFrom o at into (Err faults.Missing) → ⊥
-stays_there None text into at b h = absurd b
-stays_there (Some bytes) text into at b h = h
-
-stays_at : (c : Contents) (path text into : List ℕ) (at : ℕ) → BeginsAt c path text → ReadsFile c path at into (Err faults.Missing) → TellsNothing c
-stays_at None path text into at b h = tt
-stays_at (Some held) path text into at b h = stays_there (held path) text into at b h
-
--- a file that is there is not missing
-pub stays : (c d : Contents) (path text into : List ℕ) (at : ℕ) → d ≡ c → BeginsAt c path text → ReadsFile d path at into (Err faults.Missing) → TellsNothing c
-stays c d path text into at same b h = stays_at c path text into at b (subst (λ (k : Contents). ReadsFile k path at into (Err faults.Missing)) same h)
 
 first_there : (held : List ℕ → Option (List ℕ)) (o : Option (List ℕ)) (p : List ℕ) (later : Option (List ℕ × List ℕ)) (path front : List ℕ) → held p ≡ o → (IsFile later path front → Begins (held path) front) → IsFile (or_next p o later) path front → Begins (held path) front
 first_there held None p later path front e more h = more h
@@ -62,7 +35,7 @@ first_is_there None paths path front h = tt
 first_is_there (Some held) paths path front h = first_begins held paths path front h
 
 sought_is_there : (c : Contents) (paths : List (List ℕ)) (name : List ℕ) (found : Found) → IsSought c paths name found → IsThere c found
-sought_is_there c paths name (kinds.File path front missing) h = first_is_there c paths path front.items h.0
+sought_is_there c paths name (kinds.File path front missing) h = (first_is_there c paths path front.items h.0, h.1)
 sought_is_there c paths name (kinds.BuiltIn header) h = tt
 
 -- what was found for a header is there, in files that hold the same

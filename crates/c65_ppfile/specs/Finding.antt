@@ -1,8 +1,6 @@
 -- Which file a path leads to, and what is read of it. Of files that tell nothing, nothing is said.
-use Rattle.std.specs.Prelude.{◌≡◌, ◌<◌, ◌⊎◌, ℕ, List, [], ◌∷◌, ◌++◌, length, slice_get, unwrap_or, Bool, Option, Some, None, Result, Ok, Err, ⊤, if◌then◌else◌}
-use Rattle.c65_base.specs.Limits.{limit_of}
+use Rattle.std.specs.Prelude.{◌≡◌, ◌≤◌, ◌⊎◌, ℕ, List, [], ◌∷◌, ◌++◌, length, slice_get, unwrap_or, Bool, Option, Some, None, Result, Ok, Err, ⊤, if◌then◌else◌}
 use Rattle.c65_base.specs.declared.refusal.Refusal.{Refusal}
-use Rattle.c65_base.specs.declared.refusal.Size.TheVariants.{File}
 use Rattle.c65_base.specs.declared.refusal.Refusal.TheVariants as refusals
 use Rattle.c65_io.specs.Contents.{Contents}
 use Rattle.c65_ppfile.specs.declared.files.Found.{Found}
@@ -31,14 +29,9 @@ abbrev pub BeginsAt : Contents → List ℕ → List ℕ → Type 0
 BeginsAt None path front = ⊤
 BeginsAt (Some held) path front = Begins (held path) front
 
--- a file is there, and these are its bytes, or more of them than a file may have
-abbrev pub IsRead : Option (List ℕ) → List ℕ → Type 0
-IsRead None text = ⊥
-IsRead (Some bytes) text = (rest : List ℕ) × (bytes ≡ text ++ rest) × ((rest ≡ []) ⊎ (limit_of File < length text))
-
-abbrev pub IsReadAt : Contents → List ℕ → List ℕ → Type 0
-IsReadAt None path text = ⊤
-IsReadAt (Some held) path text = IsRead (held path) text
+-- no more bytes than one piece has
+abbrev pub IsPiece : List ℕ → Type 0
+IsPiece front = length front ≤ 4096
 
 -- the first of these paths under which a file is there, and its bytes
 abbrev pub or_next : List ℕ → Option (List ℕ) → Option (List ℕ × List ℕ) → Option (List ℕ × List ℕ)
@@ -69,29 +62,23 @@ header_of name = if is_rooted name then None else built_in_of name
 -- The answer of a read from a file's start on: its first bytes, or none where it is absent.
 abbrev pub Opens : {V : Type 0} → (V → List ℕ) → Contents → List ℕ → Result (Option V) Refusal → Type 0
 Opens view contents path (Ok None) = IsAbsent contents path
-Opens view contents path (Ok (Some front)) = BeginsAt contents path (view front)
+Opens view contents path (Ok (Some front)) = BeginsAt contents path (view front) × IsPiece (view front)
 Opens view contents path (Err refusal) = IsFree refusal
-
--- The answer of a read to the end of a file that was there. It may be missing by its name where files tell nothing.
-abbrev pub Completes : {V : Type 0} → (V → List ℕ) → Contents → List ℕ → List ℕ → Result V Refusal → Type 0
-Completes view contents path name (Ok text) = IsReadAt contents path (view text)
-Completes view contents path name (Err (refusals.Missing missing)) = (missing ≡ name) × TellsNothing contents
-Completes view contents path name (Err refusal) = IsFree refusal
 
 -- the answer of a look under each path in turn
 abbrev pub Finds : {V : Type 0} → (V → List ℕ × List ℕ) → Contents → List (List ℕ) → Result (Option V) Refusal → Type 0
 Finds view contents paths (Ok None) = first_found contents paths ≡ None
-Finds view contents paths (Ok (Some file)) = IsFirst contents paths (view file).0 (view file).1
+Finds view contents paths (Ok (Some file)) = IsFirst contents paths (view file).0 (view file).1 × IsPiece (view file).1
 Finds view contents paths (Err refusal) = IsFree refusal
 
 -- a file is there, or a header is built in
 abbrev pub IsThere : Contents → Found → Type 0
-IsThere contents (kinds.File path front name) = BeginsAt contents path front.items
+IsThere contents (kinds.File path front name) = BeginsAt contents path front.items × IsPiece front.items
 IsThere contents (kinds.BuiltIn header) = ⊤
 
 -- what an #include of a name finds: the first file, which is missing by the name if it is gone later, else the header
 abbrev pub IsSought : Contents → List (List ℕ) → List ℕ → Found → Type 0
-IsSought contents paths name (kinds.File path front missing) = IsFirst contents paths path front.items × (missing ≡ name)
+IsSought contents paths name (kinds.File path front missing) = IsFirst contents paths path front.items × IsPiece front.items × (missing ≡ name)
 IsSought contents paths name (kinds.BuiltIn header) = (first_found contents paths ≡ None) × (header_of name ≡ Some header)
 
 -- neither a file nor a header is there
@@ -104,20 +91,16 @@ Seeks contents including folders header (Ok found) = IsSought contents (paths_of
 Seeks contents including folders header (Err (refusals.Missing name)) = (name ≡ header.name) × IsNowhere contents (paths_of including folders header.is_quoted header.name) header.name
 Seeks contents including folders header (Err refusal) = IsFree refusal
 
--- The answer of a read of the unit's own file.
+-- The answer of a read of the first bytes of the unit's own file.
 abbrev pub ReadsMain : {V : Type 0} → (V → List ℕ) → Contents → List ℕ → Result V Refusal → Type 0
-ReadsMain view contents path (Ok text) = IsReadAt contents path (view text)
+ReadsMain view contents path (Ok front) = BeginsAt contents path (view front) × IsPiece (view front)
 ReadsMain view contents path (Err (refusals.Missing name)) = (name ≡ path) × IsAbsent contents path
 ReadsMain view contents path (Err refusal) = IsFree refusal
 
-abbrev pub HasName : Found → List ℕ → Type 0
-HasName (kinds.File path front missing) name = name ≡ missing
-HasName (kinds.BuiltIn header) name = ⊥
-
--- what was found is missing later only where files tell nothing, and then by its name
-abbrev pub Enters : {T : Type 0} → Contents → Found → Result T Refusal → Type 0
-Enters contents found (Err (refusals.Missing name)) = HasName found name × TellsNothing contents
-Enters contents found result' = ⊤
+-- the first bytes of a file that was found are one piece
+abbrev pub IsShort : Found → Type 0
+IsShort (kinds.File path front name) = IsPiece front.items
+IsShort (kinds.BuiltIn header) = ⊤
 
 -- the path of a file by its number
 abbrev pub path_at : List (List ℕ) → ℕ → List ℕ

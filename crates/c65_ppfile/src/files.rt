@@ -1,13 +1,13 @@
 // Reading files, and seeking the file of an #include.
 ghost use Rattle.std.specs.Prelude.{◌≡◌, ◌∷◌, ◌++◌, [], map, None, IfOk, OnOk, if◌then◌else◌};
 ghost use Rattle.c65_ppfile.specs.Counts.{Serves, MissedAll, outside};
-ghost use Rattle.c65_ppfile.specs.Finding.{BeginsAt, Opens, Completes, Finds, Seeks, ReadsMain, header_of};
+ghost use Rattle.c65_ppfile.specs.Finding.{Opens, Finds, Seeks, ReadsMain, header_of};
 ghost use Rattle.c65_ppfile.specs.Headers.{built_in_of};
 ghost use Rattle.c65_ppfile.specs.Search;
 
 use crate::headers::{BuiltIn, find_built_in};
 use crate::include::Header;
-use c65_base::{Refusal, Size, Text};
+use c65_base::{Refusal, Text};
 use c65_io::{FileFault, Files};
 use std::alloc::{AllocError, Global};
 
@@ -35,38 +35,6 @@ fn begin<F: Files>(
         Err(FileFault::Missing) => Ok(None),
         Err(FileFault::Failed) => Err(Refusal::ReadFault),
     }
-}
-
-/// Reads a file on behind its first bytes, up to one byte more than a file may have. A file that is missing then is missing
-/// by this name.
-pub fn complete<F: Files>(
-    files: &mut F,
-    folders: &[Text],
-    path: &[u8],
-    name: Text,
-    first: Vec<u8>,
-) -> Result<Vec<u8>, Refusal>
-    requires { BeginsAt (F.contents files.old) path.now first.items }
-    ensures serves { Serves folders.now (outside (F.contents files.old) (F.write_faults files.old) (F.faults files.old) (F.misses files.old))
-        (outside (F.contents files.new) (F.write_faults files.new) (F.faults files.new) (F.misses files.new)) result }
-    ensures completes { Completes (λ text. text.items) (F.contents files.old) path.now name result }
-{
-    let _ = folders;
-    let mut text = first;
-    let mut piece = [0u8; PIECE];
-    while text.len() as u64 <= Size::File.number() {
-        match files.read(path, text.len() as u32, &mut piece) {
-            Ok(0) => return Ok(text),
-            Ok(count) => {
-                if text.extend_from_slice(&piece[..count]).is_err() {
-                    return Err(Refusal::OutOfMemory);
-                }
-            }
-            Err(FileFault::Missing) => return Err(Refusal::Missing { path: name }),
-            Err(FileFault::Failed) => return Err(Refusal::ReadFault),
-        }
-    }
-    Ok(text)
 }
 
 /// The folder of a path with its /, or nothing where the path has none.
@@ -227,8 +195,8 @@ pub fn seek<F: Files>(
     }
 }
 
-/// The text of a unit's own file.
-pub fn read_main<F: Files>(
+/// The first bytes of a unit's own file.
+pub fn begin_main<F: Files>(
     alloc: Global,
     files: &mut F,
     folders: &[Text],
@@ -236,14 +204,14 @@ pub fn read_main<F: Files>(
 ) -> Result<Vec<u8>, Refusal>
     ensures serves { Serves folders.now (outside (F.contents files.old) (F.write_faults files.old) (F.faults files.old) (F.misses files.old))
         (outside (F.contents files.new) (F.write_faults files.new) (F.faults files.new) (F.misses files.new)) result }
-    ensures reads { ReadsMain (λ text. text.items) (F.contents files.old) path.now result }
+    ensures reads { ReadsMain (λ front. front.items) (F.contents files.old) path.now result }
 {
-    let Ok(name) = path.copy(alloc) else {
-        return Err(Refusal::OutOfMemory);
-    };
     match begin(alloc, files, folders, path.as_slice()) {
-        Ok(Some(first)) => complete(files, folders, path.as_slice(), name, first),
-        Ok(None) => Err(Refusal::Missing { path: name }),
+        Ok(Some(first)) => Ok(first),
+        Ok(None) => match path.copy(alloc) {
+            Ok(path) => Err(Refusal::Missing { path }),
+            Err(_) => Err(Refusal::OutOfMemory),
+        },
         Err(refusal) => Err(refusal),
     }
 }

@@ -1,5 +1,5 @@
 // The headers that are built in. A header gives its declarations once in a unit.
-ghost use Rattle.std.specs.Prelude.{◌≡◌, [], find, bytes_eq, IfOk, OnOk};
+ghost use Rattle.std.specs.Prelude.{◌≡◌, ◌≤◌, [], length, find, bytes_eq, IfOk, OnOk};
 ghost use Rattle.c65_ppfile.specs.Headers;
 
 use std::alloc::{AllocError, Global};
@@ -217,7 +217,9 @@ impl Included {
     }
 
     /// The text of a header at its inclusion: nothing from the second one on.
+    #[tactic(auto, using(crate::proofs::Short::text_short))]
     pub fn include(&mut self, header: BuiltIn) -> Result<Vec<u8>, AllocError>
+        ensures short { IfOk result (λ text. length text.items ≤ 4096) }
         ensures text { IfOk result (λ text. text.items ≡ Headers.text_behind self.old.is_char_signed self.old.headers.items header) }
         ensures headers { OnOk result (self.new.headers.items ≡ Headers.with_header self.old.headers.items header) }
         ensures signed { self.new.is_char_signed ≡ self.old.is_char_signed }

@@ -5,6 +5,6 @@ mod files;
 mod headers;
 mod include;
 
-pub use files::{Found, complete, read_main, seek};
+pub use files::{Found, begin_main, seek};
 pub use headers::{BuiltIn, Included};
 pub use include::{Header, include_line};

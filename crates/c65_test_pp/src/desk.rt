@@ -44,6 +44,15 @@ impl Desk {
         self.put(alloc, path, bytes)
     }
 
+    /// Doubles the text of a file, so many times.
+    pub fn double(&mut self, alloc: Global, path: &str, times: u32) -> Result<(), Refusal> {
+        for _ in 0..times {
+            let text = Vec::from_slice(alloc, self.files.get(path.as_bytes()).unwrap_or(&[]))?;
+            self.add(alloc, path, 1, text.as_slice())?;
+        }
+        Ok(())
+    }
+
     pub fn define(&mut self, alloc: Global, name: &str, body: Vec<u8>) -> Result<(), Refusal> {
         self.defines.push(Define {
             name: Text::copy_of(alloc, name.as_bytes())?,

@@ -4,6 +4,7 @@
 //!
 //! - `new N`: no files, folders or definitions; the call with number N that reads a file will fail, and none if it is 0
 //! - `file PATH TEXT`, `more PATH N TEXT`: the text stands behind what the file has, once or N times
+//! - `double PATH N`: what the file has stands in it twice, N times over
 //! - `chain N`: `a.c` includes itself until N files are open, and the last one has the name `end`
 //! - `folder PATH`, `define NAME TEXT`: a folder of the search, and a definition of the command line
 //! - `unit TEXT`: the unit of `a.c` with this text; `unit` alone: of `a.c` as it stands
@@ -43,6 +44,7 @@ fn prepare(alloc: Global, desk: &mut Desk, name: &str, rest: &str) -> Result<(),
             let (count, text) = first_word(text);
             desk.add(alloc, first, number(count), &unescaped(alloc, text)?)?;
         }
+        "double" => desk.double(alloc, first, number(text))?,
         "chain" => chain(alloc, desk, number(rest))?,
         "folder" => desk.seek_in(alloc, rest)?,
         "define" => desk.define(alloc, first, unescaped(alloc, text)?)?,

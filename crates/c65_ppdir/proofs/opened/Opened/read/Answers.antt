@@ -1,8 +1,8 @@
-use Rattle.std.proofs.Common.{◌∙◌, Bool, refl, ap}
-use Rattle.c65_ppline.specs.Lexing.{lexing}
-use Rattle.c65_ppdir.specs.Opening.{read_of}
+use Rattle.c65_ppdir.proofs.Texts.{text_reads}
 use Rattle.c65_ppdir.proofs.opened.Opened.read.Goals as goal
 
-pub returns-in-Ok-clause-exact : goal.returns-in-Ok-clause-exact
-returns-in-Ok-clause-exact c =
-    (lexing c.in-Ok.lexed c.next_token.new.lexer c.next_token.new.names, c.in-Ok.ensures.exact, c.read_of.ensures ∙ ap (λ (b : Bool). read_of c.args.self.now.ending b c.in-Ok.lexed) c.is_cut_off.ensures, refl, refl)
+pub returns-clause-exact : goal.returns-clause-exact
+returns-clause-exact g c =
+    λ held told here.
+    let x = c.read.ensures.exact held told here in
+    text_reads held c.args.self.now c.read.new.self c.args.header c.args.names.now c.read.new.names c.read.result x.0 x.1

@@ -10,9 +10,10 @@ use Rattle.c65_ppdir.proofs.reader.Reader.decide.Goals as goal
 
 pub returns-in-Ok-clause-exact : goal.returns-in-Ok-clause-exact
 returns-in-Ok-clause-exact c =
-    let p = progress c.args.self.now c.args.file.now c.args.names.now in
-    let q = progress c.args.self.now c.args.file.now c.condition_line.new.names in
-    let view : Unit {0} → Progress = λ x. progress c.args.self.now (record c.args.file.now { groups = c.choose.new.groups }) c.condition_line.new.names in
+    λ held.
+    let p = progress held c.args.self.now c.args.file.now c.args.names.now in
+    let q = progress held c.args.self.now c.args.file.now c.condition_line.new.names in
+    let view : Unit {0} → Progress = λ x. progress held c.args.self.now (record c.args.file.now { groups = c.choose.new.groups }) c.condition_line.new.names in
     let e : tests.Condition ≡ c.args.test = cc (c.in-Condition.is) in
     subst (λ (t : Test). Comes view (decided t c.args.line p) c.choose.result) e
     (known_ok view (IsCondition c.args.self.now.macros c.args.names.now c.args.line) (λ x. just (Ok (chosen x.0 (record p { names = x.1 })))) c.condition_line.new.names c.in-Ok.holds c.choose.result c.in-Ok.ensures.exact
