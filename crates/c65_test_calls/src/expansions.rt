@@ -3,7 +3,7 @@ ghost use Rattle.std.specs.Prelude.{◌<◌, ◌≤◌, length};
 
 use c65_base::{Name, Names, Options, Pos, Refusal};
 use c65_lex::{PpKind, PpToken, PpTokens, class_of};
-use c65_macro::{Macro, Macros, Params};
+use c65_macro::{Expander, Macro, Macros, Params};
 use std::alloc::Global;
 
 /// A text with its lines.
@@ -126,19 +126,24 @@ pub fn shown(alloc: Global, names: &Names, tokens: &[PpToken]) -> Result<Vec<u8>
     Ok(text)
 }
 
-/// Macros, and the names of their tokens.
+/// Macros, the names of their tokens, and an expansion that is fed.
 #[derive(Drop)]
 pub struct Desk {
     names: Names,
     macros: Macros,
+    expander: Expander,
 }
 
 impl Desk {
-    /// No macros but those that are predefined.
+    /// No macros but those that are predefined, and nothing is fed.
     pub fn new(alloc: Global) -> Result<Desk, Refusal> {
         let mut names = Names::new(alloc);
         let macros = Macros::new(alloc, &Options::none(), &mut names)?;
-        Ok(Desk { names, macros })
+        Ok(Desk {
+            names,
+            macros,
+            expander: Expander::new(alloc),
+        })
     }
 
     fn expansion(&mut self, alloc: Global, text: &[u8]) -> Result<Vec<u8>, Refusal> {
@@ -147,7 +152,24 @@ impl Desk {
         shown(alloc, &self.names, &tokens)
     }
 
-    /// Does a line of the table. The expansion of a text is its answer.
+    /// What comes out as the next tokens are fed.
+    fn feed(&mut self, alloc: Global, text: &[u8]) -> Result<Vec<u8>, Refusal> {
+        let line = lex(alloc, &mut self.names, text, 10)?;
+        let mut out = Vec::new(alloc);
+        self.expander
+            .feed(&self.macros, line, &mut self.names, &mut out)?;
+        shown(alloc, &self.names, &out)
+    }
+
+    /// What comes out at the end of what was fed.
+    fn finish(&mut self, alloc: Global) -> Result<Vec<u8>, Refusal> {
+        let mut out = Vec::new(alloc);
+        self.expander
+            .finish(&self.macros, &mut self.names, &mut out)?;
+        shown(alloc, &self.names, &out)
+    }
+
+    /// Does a line of the table. Its answer is what was expanded, if anything was.
     pub fn perform(
         &mut self,
         alloc: Global,
@@ -159,6 +181,8 @@ impl Desk {
             "new" => *self = Desk::new(alloc)?,
             "define" => define(alloc, &mut self.macros, &mut self.names, &bytes)?,
             "expand" => return Ok(Some(self.expansion(alloc, &bytes)?)),
+            "feed" => return Ok(Some(self.feed(alloc, &bytes)?)),
+            "finish" => return Ok(Some(self.finish(alloc)?)),
             _ => {}
         }
         Ok(None)

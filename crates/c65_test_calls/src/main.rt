@@ -7,6 +7,8 @@
 //! - `new`: no macros but those that are predefined
 //! - `define TEXT`: a macro, as a directive's line has it behind its name
 //! - `expand TEXT`: the expansion of a text whose lines begin with the 10th
+//! - `feed TEXT`: what comes out as an expander is fed such a text
+//! - `finish`: what comes out of it at the end
 #![tactic(auto)]
 
 mod expansions;
