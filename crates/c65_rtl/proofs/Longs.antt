@@ -11,15 +11,15 @@ use Rattle.c65_code.specs.Placement.{Placement}
 use Rattle.c65_code.specs.Rows.{Row, row_by, giving, popping, reading, needing, push_row, long_at}
 use Rattle.c65_code.specs.RawMachine.{RawSetting, Bounds, called, MayRun, Runs, MeetsRow, reach_of}
 use Rattle.c65_rtl.specs.Assembly.{sp, sreg, ptr1, ptr2, implied, value, zero_page, by_y}
-use Rattle.c65_rtl.specs.Stack.{raise_by_y, push_long}
+use Rattle.c65_rtl.specs.Stack.{raise_by_number, push_long}
 use Rattle.c65_rtl.specs.Routines.{lines_of}
 use Rattle.c65_rtl.proofs.Ways.{leads, Ends, runs}
 use Rattle.c65_rtl.proofs.Meeting.{ends_by, write_swap}
 use Rattle.c65_rtl.proofs.Plain.{ends_plain}
 use Rattle.c65_rtl.proofs.Opens.{OpenBytes, opens_near}
-use Rattle.c65_rtl.proofs.SpPieces.{left, lowers_by}
+use Rattle.c65_rtl.proofs.SpPieces.{left, lowers_by, raise_by_at}
 use Rattle.c65_rtl.proofs.Pushes.{meets_by, write_where, write_cong, sreg_kept}
-use Rattle.c65_rtl.proofs.SpMoves.{with_y_at, raise_by_at}
+use Rattle.c65_rtl.proofs.SpMoves.{with_y_at}
 use Rattle.c65_rtl.proofs.Loads.{long_upper, long_low, long_high, returns_at, load_word_on, load_word_at, load_sreg_on, load_sreg_at}
 use Rattle.c65_rtl.proofs.Stores.{le_true, reach_as, write_like}
 
@@ -156,7 +156,7 @@ abbrev popeax_row : State → Row
 popeax_row t = giving Eax (long_at t.mem (sp_of t)) (popping 4 t (row_by routines.PopEax t))
 
 abbrev popeax_lines : List Line
-popeax_lines = value Ldy 3 ∷ load_sreg_on (load_word_on (value Ldy 4 ∷ raise_by_y))
+popeax_lines = value Ldy 3 ∷ load_sreg_on (load_word_on (raise_by_number 4))
 
 pops_eax : (s : RawSetting) → s.lines (s.routine routines.PopEax) ≡ popeax_lines → (back : Place) (t : State) → MayRun s (popeax_row t) t → Runs s routines.PopEax (popeax_row t) back t
 pops_eax s has back t may =
@@ -170,9 +170,9 @@ pops_eax s has back t may =
     let end : sp_of t + 3 < 65520 = bytes.below 3 k3 in
     let P : State → Type 0 = Ends (popeax_row t) t in
     runs s routines.PopEax (popeax_row t) back t popeax_lines has (record { onward = refl; weight = refl; depth = refl }) refl may
-    (with_y_at s.place (reach_of t) P 3 (load_sreg_on (load_word_on (value Ldy 4 ∷ raise_by_y))) (called back t) (λ m0 w0.
-    load_sreg_at s.place (reach_of t) P (load_word_on (value Ldy 4 ∷ raise_by_y)) (sp_of t) (record (called back t) { regs = record t.regs { y = 3; n = m0; z = w0 } }) (omega arith) (omega arith) (bytes.reach 2 k2) (bytes.reach 3 k3)
-    (λ b l h m w is_l is_h. load_word_at s.place (reach_of t) P (value Ldy 4 ∷ raise_by_y) (sp_of t)
+    (with_y_at s.place (reach_of t) P 3 (load_sreg_on (load_word_on (raise_by_number 4))) (called back t) (λ m0 w0.
+    load_sreg_at s.place (reach_of t) P (load_word_on (raise_by_number 4)) (sp_of t) (record (called back t) { regs = record t.regs { y = 3; n = m0; z = w0 } }) (omega arith) (omega arith) (bytes.reach 2 k2) (bytes.reach 3 k3)
+    (λ b l h m w is_l is_h. load_word_at s.place (reach_of t) P (raise_by_number 4) (sp_of t)
     (record (called back t) { regs = record t.regs { a = b; y = 1; n = m; z = w }; zp = write (write t.zp 3 h) 2 l }) (omega arith) (omega arith) (bytes.first k0) (bytes.reach 1 k1)
     (λ a x y n z is_a is_x.
     let long : IsLong t.mem (sp_of t) a x l h = is_long t.mem (sp_of t) a x l h may.bytes.mem is_a is_x is_l is_h in
@@ -212,7 +212,7 @@ pointers_at place bounds P rest at u e3 e2 e1 e0 bytes follows =
 abbrev popptrs_row : State → Row
 popptrs_row t = record (popping 4 t (row_by routines.PopPtrs t)) { x = Some t.regs.x; sreg = Some (sreg_of t); pointers = Some (word_at t.mem (sp_of t), word_at t.mem (sp_of t + 2)) }
 
-pops_ptrs : (s : RawSetting) → s.lines (s.routine routines.PopPtrs) ≡ pointers_on (value Ldy 4 ∷ raise_by_y) → (back : Place) (t : State) → MayRun s (popptrs_row t) t → Runs s routines.PopPtrs (popptrs_row t) back t
+pops_ptrs : (s : RawSetting) → s.lines (s.routine routines.PopPtrs) ≡ pointers_on (raise_by_number 4) → (back : Place) (t : State) → MayRun s (popptrs_row t) t → Runs s routines.PopPtrs (popptrs_row t) back t
 pops_ptrs s has back t may =
     let soft = may.room.soft in
     let sp_high = may.high in
@@ -220,8 +220,8 @@ pops_ptrs s has back t may =
     let k3 : 3 < 4 = omega arith in
     let end : sp_of t + 3 < 65520 = bytes.below 3 k3 in
     let P : State → Type 0 = Ends (popptrs_row t) t in
-    runs s routines.PopPtrs (popptrs_row t) back t (pointers_on (value Ldy 4 ∷ raise_by_y)) has (record { onward = refl; weight = refl; depth = refl }) refl may
-    (pointers_at s.place (reach_of t) P (value Ldy 4 ∷ raise_by_y) (sp_of t) (called back t) (omega arith) (omega arith) (omega arith) (omega arith) bytes
+    runs s routines.PopPtrs (popptrs_row t) back t (pointers_on (raise_by_number 4)) has (record { onward = refl; weight = refl; depth = refl }) refl may
+    (pointers_at s.place (reach_of t) P (raise_by_number 4) (sp_of t) (called back t) (omega arith) (omega arith) (omega arith) (omega arith) bytes
     (λ a p0 p1 q0 q1 m w is_p0 is_p1 is_q0 is_q1.
     raise_by_at s.place (reach_of t) P 4 (record (called back t) { regs = record t.regs { a = a; y = 0; n = m; z = w }; zp = write (write (write (write t.zp 11 q1) 10 q0) 9 p1) 8 p0 }) (may.bytes.zp 0) (may.bytes.zp 1) (omega arith) (omega arith)
     (λ y n v z c zp moved. ends_by (popptrs_row t) t (left (called back t) a t.regs.x y n v z c zp t.mem) ((11, q1) ∷ (10, q0) ∷ (9, p1) ∷ (8, p0) ∷ []) (record {

@@ -1,6 +1,5 @@
 -- What the operators on TOS share: TOS is taken off, and the row gives their result.
 use Rattle.std.proofs.Common.{◌≡◌, ℕ, ◌+◌, ◌*◌, ◌<◌, ◌≤◌, Bool, IsTrue, List, [], ◌∷◌, Option, Some, None, refl, sym, subst, ◌∙◌, arith}
-use Rattle.c65_mach.specs.declared.rows.Op.TheVariants.{Ldy}
 use Rattle.c65_code.specs.declared.line.Line.{Line}
 use Rattle.c65_code.specs.declared.routine.Routine.TheVariants as routines
 use Rattle.c65_code.specs.declared.routine.TosOp.{TosOp}
@@ -12,16 +11,14 @@ use Rattle.c65_code.specs.Numbers.{result_width, tos_result}
 use Rattle.c65_code.specs.Placement.{Placement}
 use Rattle.c65_code.specs.Rows.{Row, row_by, popping, costing, giving_if, size_of, number_at, primary_of, tos_cost, tos_row, written}
 use Rattle.c65_code.specs.RawMachine.{RawSetting, Bounds, called, MayRun, MeetsRow, reach_of}
-use Rattle.c65_rtl.specs.Assembly.{value}
 use Rattle.c65_rtl.specs.Short.{IsShort, is_straight_operator}
-use Rattle.c65_rtl.specs.Stack.{raise_two, raise_by_y}
+use Rattle.c65_rtl.specs.Stack.{raise_two, raise_by_number}
 use Rattle.c65_rtl.specs.Routines.{lines_of}
 use Rattle.c65_rtl.proofs.Ways.{leads, Ends, runs}
 use Rattle.c65_rtl.proofs.Meeting.{fits}
 use Rattle.c65_rtl.proofs.Opens.{OpenBytes, opens_near}
 use Rattle.c65_rtl.proofs.ShortLaws.{short_lines}
-use Rattle.c65_rtl.proofs.SpPieces.{Follows, left, raise_two_at}
-use Rattle.c65_rtl.proofs.SpMoves.{raise_by_at}
+use Rattle.c65_rtl.proofs.SpPieces.{Follows, left, raise_two_at, raise_by_at}
 use Rattle.c65_rtl.proofs.Pushes.{meets_by}
 use Rattle.c65_rtl.proofs.UnaryWords.{AreWordBytes, AreLongBytes}
 use Rattle.c65_rtl.proofs.Plain.{is_plain, ends_plain}
@@ -29,7 +26,7 @@ use Rattle.c65_rtl.proofs.Plain.{is_plain, ends_plain}
 -- TOS is dropped
 abbrev pub drop_lines : Width → List Line
 drop_lines Ax = raise_two
-drop_lines Eax = value Ldy 4 ∷ raise_by_y
+drop_lines Eax = raise_by_number 4
 
 pub drop_at : (width : Width) (place : Placement) (bounds : Bounds) (P : State → Type 0) (u : State) → u.zp 0 < 256 → u.zp 1 < 256 → sp_of u + size_of width < 65536 → Follows P (sp_of u + size_of width) u
     → leads place bounds P (drop_lines width) None (record u { pushed = [] })

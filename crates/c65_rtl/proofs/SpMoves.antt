@@ -12,11 +12,11 @@ use Rattle.c65_code.specs.Rows.{Row, sp_row, number_of}
 use Rattle.c65_code.specs.RawMachine.{RawSetting, Bounds, called, MayRun, Runs, MeetsRow, reach_of}
 use Rattle.c65_rtl.specs.Assembly.{value}
 use Rattle.c65_rtl.specs.Short.{IsShort}
-use Rattle.c65_rtl.specs.Stack.{raise_one, raise_two, raise_by_y, lower_one, lower_two, lower_by_y}
+use Rattle.c65_rtl.specs.Stack.{raise_one, raise_two, raise_by_y, raise_by_number, lower_one, lower_two, lower_by_y, lower_by_number}
 use Rattle.c65_rtl.specs.Routines.{lines_of}
 use Rattle.c65_rtl.proofs.Ways.{leads, Ends, runs}
 use Rattle.c65_rtl.proofs.Plain.{ends_plain}
-use Rattle.c65_rtl.proofs.SpPieces.{Moved, Follows, raise_one_at, raise_two_at, raise_by_y_at, lower_one_at, lower_two_at, lower_by_y_at}
+use Rattle.c65_rtl.proofs.SpPieces.{Moved, Follows, raise_one_at, raise_two_at, raise_by_y_at, raise_by_at, lower_one_at, lower_two_at, lower_by_y_at, lower_by_at}
 use Rattle.c65_rtl.proofs.Pushes.{meets_by, sreg_kept}
 
 -- Y is loaded first
@@ -25,21 +25,6 @@ pub with_y_at : (place : Placement) (bounds : Bounds) (P : State → Type 0) (k 
     → leads place bounds P (value Ldy k ∷ rest) None u
 unfolding leads
 with_y_at place bounds P k rest u follows = follows _ _
-
-pub raise_by_at : (place : Placement) (bounds : Bounds) (P : State → Type 0) (k : ℕ) (u : State) → u.zp 0 < 256 → u.zp 1 < 256 → k < 256 → sp_of u + k < 65536 → Follows P (sp_of u + k) u
-    → leads place bounds P (value Ldy k ∷ raise_by_y) None (record u { pushed = [] })
-raise_by_at place bounds P k u low high byte fits follows =
-    let at : (sp_of u + k) % 65536 ≡ sp_of u + k = omega arith in
-    with_y_at place bounds P k raise_by_y (record u { pushed = [] }) (λ n z.
-    raise_by_y_at place bounds P (record u { regs = record u.regs { y = k; n = n; z = z }; pushed = [] }) low high byte
-    (λ y n v z c zp moved. follows y n v z c zp (subst (λ (a : ℕ). Moved a u.zp zp) at moved)))
-
-lower_by_at : (place : Placement) (bounds : Bounds) (P : State → Type 0) (k : ℕ) (u : State) → u.zp 0 < 256 → u.zp 1 < 256 → k < 256 → k ≤ sp_of u → Follows P (sp_of u - k) u
-    → leads place bounds P (value Ldy k ∷ lower_by_y) None (record u { pushed = [] })
-lower_by_at place bounds P k u low high byte fits follows =
-    with_y_at place bounds P k lower_by_y (record u { pushed = [] }) (λ n z.
-    lower_by_y_at place bounds P (record u { regs = record u.regs { y = k; n = n; z = z }; pushed = [] }) low high byte fits
-    (λ y n v z c zp moved. follows y n v z c zp moved))
 
 -- what these routines leave
 raised_ends : (count : Count) (s : RawSetting) (back : Place) (t : State) → MayRun s (sp_row (routines.IncSp count) (sp_of t + number_of count) t) t
@@ -68,12 +53,12 @@ raises_two s has back t may =
     runs s (routines.IncSp Two) (sp_row (routines.IncSp Two) (sp_of t + 2) t) back t raise_two has (record { onward = refl; weight = refl; depth = refl }) refl may
     (raise_two_at s.place (reach_of t) (Ends (sp_row (routines.IncSp Two) (sp_of t + 2) t) t) (called back t) (may.bytes.zp 0) (may.bytes.zp 1) (omega arith) (raised_ends Two s back t may))
 
-raises_more : (s : RawSetting) (count : Count) → number_of count < 9 → s.lines (s.routine (routines.IncSp count)) ≡ value Ldy (number_of count) ∷ raise_by_y → IsShort 32 (value Ldy (number_of count) ∷ raise_by_y)
+raises_more : (s : RawSetting) (count : Count) → number_of count < 9 → s.lines (s.routine (routines.IncSp count)) ≡ raise_by_number (number_of count) → IsShort 32 (raise_by_number (number_of count))
     → (back : Place) (t : State) → MayRun s (sp_row (routines.IncSp count) (sp_of t + number_of count) t) t
     → Runs s (routines.IncSp count) (sp_row (routines.IncSp count) (sp_of t + number_of count) t) back t
 raises_more s count few has short back t may =
     let high = may.high in
-    runs s (routines.IncSp count) (sp_row (routines.IncSp count) (sp_of t + number_of count) t) back t (value Ldy (number_of count) ∷ raise_by_y) has short refl may
+    runs s (routines.IncSp count) (sp_row (routines.IncSp count) (sp_of t + number_of count) t) back t (raise_by_number (number_of count)) has short refl may
     (raise_by_at s.place (reach_of t) (Ends (sp_row (routines.IncSp count) (sp_of t + number_of count) t) t) (number_of count) (called back t) (may.bytes.zp 0) (may.bytes.zp 1) (omega arith) (omega arith) (raised_ends count s back t may))
 
 lowers_one : (s : RawSetting) → s.lines (s.routine (routines.DecSp One)) ≡ lower_one → (back : Place) (t : State) → MayRun s (sp_row (routines.DecSp One) (sp_of t - 1) t) t
@@ -90,13 +75,13 @@ lowers_two s has back t may =
     runs s (routines.DecSp Two) (sp_row (routines.DecSp Two) (sp_of t - 2) t) back t lower_two has (record { onward = refl; weight = refl; depth = refl }) refl may
     (lower_two_at s.place (reach_of t) (Ends (sp_row (routines.DecSp Two) (sp_of t - 2) t) t) (called back t) (may.bytes.zp 0) (may.bytes.zp 1) (omega arith) (lowered_ends Two s back t may))
 
-lowers_more : (s : RawSetting) (count : Count) → number_of count < 9 → s.lines (s.routine (routines.DecSp count)) ≡ value Ldy (number_of count) ∷ lower_by_y → IsShort 32 (value Ldy (number_of count) ∷ lower_by_y)
+lowers_more : (s : RawSetting) (count : Count) → number_of count < 9 → 1 ≤ number_of count → s.lines (s.routine (routines.DecSp count)) ≡ lower_by_number (number_of count) → IsShort 32 (lower_by_number (number_of count))
     → (back : Place) (t : State) → MayRun s (sp_row (routines.DecSp count) (sp_of t - number_of count) t) t
     → Runs s (routines.DecSp count) (sp_row (routines.DecSp count) (sp_of t - number_of count) t) back t
-lowers_more s count few has short back t may =
+lowers_more s count few some has short back t may =
     let soft = may.room.soft in
-    runs s (routines.DecSp count) (sp_row (routines.DecSp count) (sp_of t - number_of count) t) back t (value Ldy (number_of count) ∷ lower_by_y) has short refl may
-    (lower_by_at s.place (reach_of t) (Ends (sp_row (routines.DecSp count) (sp_of t - number_of count) t) t) (number_of count) (called back t) (may.bytes.zp 0) (may.bytes.zp 1) (omega arith) (omega arith) (lowered_ends count s back t may))
+    runs s (routines.DecSp count) (sp_row (routines.DecSp count) (sp_of t - number_of count) t) back t (lower_by_number (number_of count)) has short refl may
+    (lower_by_at s.place (reach_of t) (Ends (sp_row (routines.DecSp count) (sp_of t - number_of count) t) t) (number_of count) (called back t) (may.bytes.zp 0) (may.bytes.zp 1) (omega arith) some (omega arith) (lowered_ends count s back t may))
 
 few : (count : Count) → number_of count < 9
 few One = omega arith
@@ -121,12 +106,12 @@ incsp s Eight has = meets_by s (routines.IncSp Eight) (λ t. sp_row (routines.In
 pub decsp : (s : RawSetting) (count : Count) → s.lines (s.routine (routines.DecSp count)) ≡ lines_of (routines.DecSp count) → MeetsRow s (routines.DecSp count)
 decsp s One has = meets_by s (routines.DecSp One) (λ t. sp_row (routines.DecSp One) (sp_of t - 1) t) (λ t. refl) (lowers_one s has)
 decsp s Two has = meets_by s (routines.DecSp Two) (λ t. sp_row (routines.DecSp Two) (sp_of t - 2) t) (λ t. refl) (lowers_two s has)
-decsp s Three has = meets_by s (routines.DecSp Three) (λ t. sp_row (routines.DecSp Three) (sp_of t - 3) t) (λ t. refl) (lowers_more s Three (few Three) has (record { onward = refl; weight = refl; depth = refl }))
-decsp s Four has = meets_by s (routines.DecSp Four) (λ t. sp_row (routines.DecSp Four) (sp_of t - 4) t) (λ t. refl) (lowers_more s Four (few Four) has (record { onward = refl; weight = refl; depth = refl }))
-decsp s Five has = meets_by s (routines.DecSp Five) (λ t. sp_row (routines.DecSp Five) (sp_of t - 5) t) (λ t. refl) (lowers_more s Five (few Five) has (record { onward = refl; weight = refl; depth = refl }))
-decsp s Six has = meets_by s (routines.DecSp Six) (λ t. sp_row (routines.DecSp Six) (sp_of t - 6) t) (λ t. refl) (lowers_more s Six (few Six) has (record { onward = refl; weight = refl; depth = refl }))
-decsp s Seven has = meets_by s (routines.DecSp Seven) (λ t. sp_row (routines.DecSp Seven) (sp_of t - 7) t) (λ t. refl) (lowers_more s Seven (few Seven) has (record { onward = refl; weight = refl; depth = refl }))
-decsp s Eight has = meets_by s (routines.DecSp Eight) (λ t. sp_row (routines.DecSp Eight) (sp_of t - 8) t) (λ t. refl) (lowers_more s Eight (few Eight) has (record { onward = refl; weight = refl; depth = refl }))
+decsp s Three has = meets_by s (routines.DecSp Three) (λ t. sp_row (routines.DecSp Three) (sp_of t - 3) t) (λ t. refl) (lowers_more s Three (few Three) (omega arith) has (record { onward = refl; weight = refl; depth = refl }))
+decsp s Four has = meets_by s (routines.DecSp Four) (λ t. sp_row (routines.DecSp Four) (sp_of t - 4) t) (λ t. refl) (lowers_more s Four (few Four) (omega arith) has (record { onward = refl; weight = refl; depth = refl }))
+decsp s Five has = meets_by s (routines.DecSp Five) (λ t. sp_row (routines.DecSp Five) (sp_of t - 5) t) (λ t. refl) (lowers_more s Five (few Five) (omega arith) has (record { onward = refl; weight = refl; depth = refl }))
+decsp s Six has = meets_by s (routines.DecSp Six) (λ t. sp_row (routines.DecSp Six) (sp_of t - 6) t) (λ t. refl) (lowers_more s Six (few Six) (omega arith) has (record { onward = refl; weight = refl; depth = refl }))
+decsp s Seven has = meets_by s (routines.DecSp Seven) (λ t. sp_row (routines.DecSp Seven) (sp_of t - 7) t) (λ t. refl) (lowers_more s Seven (few Seven) (omega arith) has (record { onward = refl; weight = refl; depth = refl }))
+decsp s Eight has = meets_by s (routines.DecSp Eight) (λ t. sp_row (routines.DecSp Eight) (sp_of t - 8) t) (λ t. refl) (lowers_more s Eight (few Eight) (omega arith) has (record { onward = refl; weight = refl; depth = refl }))
 
 adds_y : (s : RawSetting) → s.lines (s.routine routines.AddYSp) ≡ raise_by_y → (back : Place) (t : State) → MayRun s (sp_row routines.AddYSp ((sp_of t + t.regs.y) % 65536) t) t
     → Runs s routines.AddYSp (sp_row routines.AddYSp ((sp_of t + t.regs.y) % 65536) t) back t

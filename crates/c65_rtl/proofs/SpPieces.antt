@@ -10,7 +10,7 @@ use Rattle.c65_code.specs.LineState.{Bytes, write, State, sp_of}
 use Rattle.c65_code.specs.Placement.{Placement}
 use Rattle.c65_code.specs.RawMachine.{Bounds}
 use Rattle.c65_rtl.specs.Assembly.{sp, implied, value, zero_page, branch}
-use Rattle.c65_rtl.specs.Stack.{raise_one, raise_two, raise_by_y, lower_one, lower_two, lower_by_y}
+use Rattle.c65_rtl.specs.Stack.{raise_one, raise_two, raise_by_y, raise_by_number, lower_one, lower_two, lower_by_y, lower_by_number}
 use Rattle.c65_rtl.proofs.Ways.{leads}
 use Rattle.c65_rtl.proofs.Meeting.{eq_true, eq_false, lt_true, lt_false, not_true, not_false, write_other}
 
@@ -159,6 +159,42 @@ lower_by_y_at place bounds P u low high byte fits follows =
           let moved : Moved (sp_of u - u.regs.y) u.zp zp = record { low = omega arith; high = omega arith; sp = omega arith; rest = λ i two. let ne : i ≢ 0 = omega arith in let nf : i ≢ 1 = omega arith in write_other mid 1 _ i nf ∙ write_other u.zp 0 _ i ne } in
           follows _ _ _ _ _ zp moved
     ]
+
+pub raise_by_at : (place : Placement) (bounds : Bounds) (P : State → Type 0) (k : ℕ) (u : State) → u.zp 0 < 256 → u.zp 1 < 256 → k < 256 → sp_of u + k < 65536 → Follows P (sp_of u + k) u
+    → leads place bounds P (raise_by_number k) None (record u { pushed = [] })
+unfolding leads
+raise_by_at place bounds P k u low high byte fits follows = elim [
+  | true ↦ λ e.
+      let test : nat_lt 255 (u.zp 0 + k + 0) ≡ false = not_true _ e in
+      let small : u.zp 0 + k + 0 ≤ 255 = lt_false _ _ test in
+      let zp : Bytes = write u.zp 0 ((u.zp 0 + k + 0) % 256) in
+      let moved : Moved (sp_of u + k) u.zp zp = record { low = omega arith; high = high; sp = omega arith; rest = λ i two. let ne : i ≢ 0 = omega arith in write_other u.zp 0 _ i ne } in
+      follows _ _ _ _ _ zp moved
+  | false ↦ λ e.
+      let test : nat_lt 255 (u.zp 0 + k + 0) ≡ true = not_false _ e in
+      let great : 255 < u.zp 0 + k + 0 = lt_true _ _ test in
+      let mid : Bytes = write u.zp 0 ((u.zp 0 + k + 0) % 256) in
+      let zp : Bytes = write mid 1 ((u.zp 1 + 1) % 256) in
+      let moved : Moved (sp_of u + k) u.zp zp = record { low = omega arith; high = omega arith; sp = omega arith; rest = λ i two. let ne : i ≢ 0 = omega arith in let nf : i ≢ 1 = omega arith in write_other mid 1 _ i nf ∙ write_other u.zp 0 _ i ne } in
+      follows _ _ _ _ _ zp moved
+]
+
+pub lower_by_at : (place : Placement) (bounds : Bounds) (P : State → Type 0) (k : ℕ) (u : State) → u.zp 0 < 256 → u.zp 1 < 256 → k < 256 → 1 ≤ k → k ≤ sp_of u → Follows P (sp_of u - k) u
+    → leads place bounds P (lower_by_number k) None (record u { pushed = [] })
+unfolding leads
+lower_by_at place bounds P k u low high byte some fits follows = elim [
+  | true ↦ λ e.
+      let great : 255 < u.zp 0 + (255 - k) + 1 = lt_true _ _ e in
+      let zp : Bytes = write u.zp 0 ((u.zp 0 + (255 - k) + 1) % 256) in
+      let moved : Moved (sp_of u - k) u.zp zp = record { low = omega arith; high = high; sp = omega arith; rest = λ i two. let ne : i ≢ 0 = omega arith in write_other u.zp 0 _ i ne } in
+      follows _ _ _ _ _ zp moved
+  | false ↦ λ e.
+      let small : u.zp 0 + (255 - k) + 1 ≤ 255 = lt_false _ _ e in
+      let mid : Bytes = write u.zp 0 ((u.zp 0 + (255 - k) + 1) % 256) in
+      let zp : Bytes = write mid 1 ((u.zp 1 + 255) % 256) in
+      let moved : Moved (sp_of u - k) u.zp zp = record { low = omega arith; high = omega arith; sp = omega arith; rest = λ i two. let ne : i ≢ 0 = omega arith in let nf : i ≢ 1 = omega arith in write_other mid 1 _ i nf ∙ write_other u.zp 0 _ i ne } in
+      follows _ _ _ _ _ zp moved
+]
 
 -- sp is lowered by so much, and A is pushed
 abbrev pub lower_by : ℕ → List Line → List Line

@@ -10,16 +10,15 @@ use Rattle.c65_code.specs.Texts.{bytes_at}
 use Rattle.c65_code.specs.Rows.{Row, row_by, keeping, popping, costing, store_row, push_row, bank_of}
 use Rattle.c65_code.specs.RawMachine.{RawSetting, Bounds, IsReachable, called, MayRun, Runs, MeetsRow, reach_of}
 use Rattle.c65_rtl.specs.Assembly.{sp, sreg, ptr1, tmp1, regbank, implied, value, zero_page, by_y}
-use Rattle.c65_rtl.specs.Stack.{raise_two, raise_by_y}
+use Rattle.c65_rtl.specs.Stack.{raise_two, raise_by_number}
 use Rattle.c65_rtl.specs.Memory.{save_bank}
 use Rattle.c65_rtl.specs.Routines.{lines_of}
 use Rattle.c65_rtl.proofs.Ways.{leads, Ends, runs}
 use Rattle.c65_rtl.proofs.Meeting.{ends_by}
 use Rattle.c65_rtl.proofs.Plain.{ends_plain}
 use Rattle.c65_rtl.proofs.Opens.{OpenBytes, opens_near, opens_far}
-use Rattle.c65_rtl.proofs.SpPieces.{left, raise_two_at, lowers_by}
+use Rattle.c65_rtl.proofs.SpPieces.{left, raise_two_at, lowers_by, raise_by_at}
 use Rattle.c65_rtl.proofs.Pushes.{meets_by, write_where, write_cong, sreg_kept}
-use Rattle.c65_rtl.proofs.SpMoves.{raise_by_at}
 use Rattle.c65_rtl.proofs.Stores.{reach_as, write_like}
 
 -- A to the address at sp, which goes to ptr1
@@ -288,7 +287,7 @@ restore_at place bounds P rest at u is fits bytes follows =
 abbrev restregs_row : State → Row
 restregs_row t = costing 256 (record (keeping t (popping 6 t (row_by routines.RestRegs t))) { bank = Some (bytes_at 6 (sp_of t) t.mem) })
 
-restregs_runs : (s : RawSetting) → s.lines (s.routine routines.RestRegs) ≡ restore_on (value Ldy 6 ∷ raise_by_y) → (back : Place) (t : State) → MayRun s (restregs_row t) t → Runs s routines.RestRegs (restregs_row t) back t
+restregs_runs : (s : RawSetting) → s.lines (s.routine routines.RestRegs) ≡ restore_on (raise_by_number 6) → (back : Place) (t : State) → MayRun s (restregs_row t) t → Runs s routines.RestRegs (restregs_row t) back t
 restregs_runs s has back t may =
     let soft = may.room.soft in
     let sp_high = may.high in
@@ -296,8 +295,8 @@ restregs_runs s has back t may =
     let k5 : 5 < 6 = omega arith in
     let end : sp_of t + 5 < 65520 = bytes.below 5 k5 in
     let P : State → Type 0 = Ends (restregs_row t) t in
-    runs s routines.RestRegs (restregs_row t) back t (restore_on (value Ldy 6 ∷ raise_by_y)) has (record { onward = refl; weight = refl; depth = refl }) refl may
-    (restore_at s.place (reach_of t) P (value Ldy 6 ∷ raise_by_y) (sp_of t) (called back t) refl (omega arith) bytes
+    runs s routines.RestRegs (restregs_row t) back t (restore_on (raise_by_number 6)) has (record { onward = refl; weight = refl; depth = refl }) refl may
+    (restore_at s.place (reach_of t) P (raise_by_number 6) (sp_of t) (called back t) refl (omega arith) bytes
     (λ q0 q1 q2 q3 q4 q5 m w is0 is1 is2 is3 is4 is5.
     raise_by_at s.place (reach_of t) P 6 (record (called back t) { regs = record t.regs { y = 5; n = m; z = w }; zp = (write (write (write (write (write (write (write t.zp 16 t.regs.a) 20 q0) 21 q1) 22 q2) 23 q3) 24 q4) 25 q5) }) (may.bytes.zp 0) (may.bytes.zp 1) (omega arith) (omega arith)
     (λ y n v z c zp moved. ends_by (restregs_row t) t (left (called back t) t.regs.a t.regs.x y n v z c zp t.mem) ((16, t.regs.a) ∷ (20, q0) ∷ (21, q1) ∷ (22, q2) ∷ (23, q3) ∷ (24, q4) ∷ (25, q5) ∷ []) (record {

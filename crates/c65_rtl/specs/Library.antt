@@ -26,9 +26,9 @@ arguments = value Lda 0xF0 ∷ zero_page Sta ptr1 ∷ value Ldx 0xF7 ∷ zero_pa
 abbrev pub end : List Line
 end = call routines.HookExit ∷ implied Rts ∷ []
 
--- the byte is pushed and written from there
+-- the word is pushed, and its low byte is written from there
 abbrev pub put_char : List Line
-put_char = call routines.PushA ∷ zero_page Lda sp ∷ zero_page Sta ptr1 ∷ zero_page Lda (sp + 1) ∷ zero_page Sta (ptr1 + 1) ∷ value Lda 1 ∷ value Ldx 0 ∷ call routines.PushAx ∷ zero_page Lda ptr1 ∷ zero_page Ldx (ptr1 + 1) ∷ call routines.PushAx ∷ value Lda 1 ∷ value Ldx 0 ∷ call routines.HookWrite ∷ call routines.PopA ∷ value Ldx 0 ∷ implied Rts ∷ []
+put_char = call routines.PushAx ∷ zero_page Lda sp ∷ zero_page Sta ptr1 ∷ zero_page Lda (sp + 1) ∷ zero_page Sta (ptr1 + 1) ∷ value Lda 1 ∷ value Ldx 0 ∷ call routines.PushAx ∷ zero_page Lda ptr1 ∷ zero_page Ldx (ptr1 + 1) ∷ call routines.PushAx ∷ value Lda 1 ∷ value Ldx 0 ∷ call routines.HookWrite ∷ call routines.PopAx ∷ value Ldx 0 ∷ implied Rts ∷ []
 
 -- A byte is read into a place on the stack
 abbrev pub get_char : List Line

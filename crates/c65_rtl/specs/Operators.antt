@@ -10,7 +10,7 @@ use Rattle.c65_code.specs.declared.routine.Width.{Width}
 use Rattle.c65_code.specs.declared.routine.Width.TheVariants.{Ax, Eax}
 use Rattle.c65_mach.specs.declared.rows.Op.{Op}
 use Rattle.c65_mach.specs.declared.rows.Op.TheVariants as ops
-use Rattle.c65_code.specs.declared.routine.Routine.TheVariants.{PopAx}
+use Rattle.c65_code.specs.declared.routine.Routine.TheVariants.{PopAx, Tos}
 use Rattle.c65_code.specs.declared.routine.Count.TheVariants.{Two, Four}
 use Rattle.c65_rtl.specs.Stack.{back, raise_pieces}
 use Rattle.c65_rtl.specs.Memory.{point}
@@ -115,9 +115,13 @@ divide_pieces = terms_pieces ++ (divide ∷ [])
 abbrev pub signed_divide_pieces : List (List Line)
 signed_divide_pieces = terms_pieces ++ (signs ∷ negation ptr1 0 ∷ divisor_sign ∷ negation ptr2 1 ∷ divide ∷ [])
 
+-- the routine of the remainder, which leaves the quotient in ptr1 and its sign in tmp2
+abbrev pub remainder_first : TosOp → List Line
+remainder_first op = call (Tos op Ax) ∷ []
+
 abbrev pub division_pieces : TosOp → List (List Line)
-division_pieces tos.UDiv = divide_pieces ++ (quotient ∷ back ∷ [])
+division_pieces tos.UDiv = remainder_first tos.UMod ∷ quotient ∷ back ∷ []
 division_pieces tos.UMod = divide_pieces ++ (remainder ∷ back ∷ [])
-division_pieces tos.Div = signed_divide_pieces ++ (quotient ∷ signed tmp2 ∷ back ∷ [])
+division_pieces tos.Div = remainder_first tos.Mod ∷ quotient ∷ signed tmp2 ∷ back ∷ []
 division_pieces tos.Mod = signed_divide_pieces ++ (remainder ∷ signed tmp1 ∷ back ∷ [])
 division_pieces _ = []

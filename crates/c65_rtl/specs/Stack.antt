@@ -1,6 +1,6 @@
 -- The software stack: pushes, pops, moves of its pointer, loads and stores.
 use Rattle.std.specs.Prelude.{ℕ, ◌+◌, List, [], ◌∷◌}
-use Rattle.c65_mach.specs.declared.rows.Op.TheVariants.{Adc, Bcc, Bcs, Beq, Bne, Clc, Cpy, Dec, Dey, Eor, Inc, Iny, Lda, Ldx, Ldy, Pha, Pla, Rts, Sbc, Sec, Sta, Sty, Tax, Txa, Tya}
+use Rattle.c65_mach.specs.declared.rows.Op.TheVariants.{Adc, Bcc, Bcs, Beq, Bne, Clc, Cpy, Dec, Dey, Eor, Inc, Iny, Lda, Ldx, Ldy, Pha, Pla, Rts, Sbc, Sec, Sta, Sty, Tax, Tay, Txa, Tya}
 use Rattle.c65_code.specs.declared.line.Line.{Line}
 use Rattle.c65_code.specs.declared.line.Line.TheVariants.{Label}
 use Rattle.c65_rtl.specs.Assembly.{sp, sreg, ptr1, ptr2, implied, value, zero_page, by_y, branch}
@@ -45,6 +45,10 @@ raise_two = zero_page Inc sp ∷ branch Beq 0 ∷ zero_page Inc sp ∷ branch Be
 abbrev pub raise_by_y : List Line
 raise_by_y = implied Pha ∷ implied Tya ∷ implied Clc ∷ zero_page Adc sp ∷ zero_page Sta sp ∷ branch Bcc 0 ∷ zero_page Inc (sp + 1) ∷ Label 0 ∷ implied Pla ∷ implied Rts ∷ []
 
+-- raises sp by a number, and keeps A, which waits in Y, and X
+abbrev pub raise_by_number : ℕ → List Line
+raise_by_number k = implied Tay ∷ zero_page Lda sp ∷ implied Clc ∷ value Adc k ∷ zero_page Sta sp ∷ branch Bcc 0 ∷ zero_page Inc (sp + 1) ∷ Label 0 ∷ implied Tya ∷ implied Rts ∷ []
+
 -- lowers sp by one
 abbrev pub lower_one : List Line
 lower_one = zero_page Ldy sp ∷ branch Bne 0 ∷ zero_page Dec (sp + 1) ∷ Label 0 ∷ zero_page Dec sp ∷ implied Rts ∷ []
@@ -56,6 +60,10 @@ lower_two = zero_page Ldy sp ∷ implied Dey ∷ implied Dey ∷ zero_page Sty s
 -- lowers sp by Y, and keeps A and X: the complement and one more are added
 abbrev pub lower_by_y : List Line
 lower_by_y = implied Pha ∷ implied Tya ∷ value Eor 0xFF ∷ implied Sec ∷ zero_page Adc sp ∷ zero_page Sta sp ∷ branch Bcs 0 ∷ zero_page Dec (sp + 1) ∷ Label 0 ∷ implied Pla ∷ implied Rts ∷ []
+
+-- lowers sp by a number, and keeps A, which waits in Y, and X
+abbrev pub lower_by_number : ℕ → List Line
+lower_by_number k = implied Tay ∷ zero_page Lda sp ∷ implied Sec ∷ value Sbc k ∷ zero_page Sta sp ∷ branch Bcs 0 ∷ zero_page Dec (sp + 1) ∷ Label 0 ∷ implied Tya ∷ implied Rts ∷ []
 
 -- the high half of four bytes whose last one is at sp + Y
 abbrev pub load_sreg : List Line
@@ -81,32 +89,26 @@ pointers = value Ldy 3 ∷ by_y Lda sp ∷ zero_page Sta (ptr2 + 1) ∷ implied 
 abbrev pub back : List Line
 back = implied Rts ∷ []
 
-abbrev pub raise_by_pieces : ℕ → List (List Line)
-raise_by_pieces y = (value Ldy y ∷ []) ∷ raise_by_y ∷ []
-
-abbrev pub lower_by_pieces : ℕ → List (List Line)
-lower_by_pieces y = (value Ldy y ∷ []) ∷ lower_by_y ∷ []
-
 -- the end of every routine that pops
 abbrev pub raise_pieces : Count → List (List Line)
 raise_pieces One = raise_one ∷ []
 raise_pieces Two = raise_two ∷ []
-raise_pieces Three = raise_by_pieces 3
-raise_pieces Four = raise_by_pieces 4
-raise_pieces Five = raise_by_pieces 5
-raise_pieces Six = raise_by_pieces 6
-raise_pieces Seven = raise_by_pieces 7
-raise_pieces Eight = raise_by_pieces 8
+raise_pieces Three = raise_by_number 3 ∷ []
+raise_pieces Four = raise_by_number 4 ∷ []
+raise_pieces Five = raise_by_number 5 ∷ []
+raise_pieces Six = raise_by_number 6 ∷ []
+raise_pieces Seven = raise_by_number 7 ∷ []
+raise_pieces Eight = raise_by_number 8 ∷ []
 
 abbrev pub lower_pieces : Count → List (List Line)
 lower_pieces One = lower_one ∷ []
 lower_pieces Two = lower_two ∷ []
-lower_pieces Three = lower_by_pieces 3
-lower_pieces Four = lower_by_pieces 4
-lower_pieces Five = lower_by_pieces 5
-lower_pieces Six = lower_by_pieces 6
-lower_pieces Seven = lower_by_pieces 7
-lower_pieces Eight = lower_by_pieces 8
+lower_pieces Three = lower_by_number 3 ∷ []
+lower_pieces Four = lower_by_number 4 ∷ []
+lower_pieces Five = lower_by_number 5 ∷ []
+lower_pieces Six = lower_by_number 6 ∷ []
+lower_pieces Seven = lower_by_number 7 ∷ []
+lower_pieces Eight = lower_by_number 8 ∷ []
 
 abbrev pub top_word_pieces : ℕ → Count → List (List Line)
 top_word_pieces y count = (value Ldy y ∷ []) ∷ load_word ∷ raise_pieces count

@@ -46,9 +46,9 @@ pub const END: [Line; 2] = [
     Do(Rts, Implied, Nothing),
 ];
 
-// The byte is pushed and written from there.
+// The word is pushed, and its low byte is written from there.
 const PUT_CHAR: [Line; 17] = [
-    Call(Callee::Routine(Routine::PushA)),
+    Call(Callee::Routine(Routine::PushAx)),
     Do(Lda, ZeroPage, Zero(SP)),
     Do(Sta, ZeroPage, Zero(PTR1)),
     Do(Lda, ZeroPage, Zero(SP + 1)),
@@ -62,7 +62,7 @@ const PUT_CHAR: [Line; 17] = [
     Do(Lda, Immediate, Byte(1)),
     Do(Ldx, Immediate, Byte(0)),
     Call(Callee::Routine(Routine::HookWrite)),
-    Call(Callee::Routine(Routine::PopA)),
+    Call(Callee::Routine(Routine::PopAx)),
     Do(Ldx, Immediate, Byte(0)),
     Do(Rts, Implied, Nothing),
 ];

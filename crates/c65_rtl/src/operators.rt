@@ -1,7 +1,7 @@
 // The operators on TOS and the primary register that are no orders and no shifts.
 ghost use Rattle.std.specs.Prelude.{◌≡◌, ◌∷◌, [], ◌+◌, ◌<◌, OnOk};
 ghost use Rattle.c65_rtl.specs.Assembly.{with_pieces};
-ghost use Rattle.c65_rtl.specs.Operators.{combined, combined_on, negation, drop_pieces, combine_pieces, subtract_pieces, multiply_pieces, divide_pieces, signed_divide_pieces, terms_pieces, signed, arithmetic_pieces, division_pieces};
+ghost use Rattle.c65_rtl.specs.Operators.{combined, combined_on, negation, drop_pieces, combine_pieces, subtract_pieces, multiply_pieces, divide_pieces, signed_divide_pieces, remainder_first, terms_pieces, signed, arithmetic_pieces, division_pieces};
 
 use crate::memory::point_ptr1;
 use crate::places::{PTR1, PTR2, PTR3, SP, SREG, TMP1, TMP2};
@@ -317,12 +317,19 @@ fn divide_signed(draft: &mut Draft) -> Result<(), AllocError>
     put(draft, &DIVIDE)
 }
 
+// The routine of the remainder, which leaves the quotient in ptr1 and its sign in tmp2.
+fn take_remainder(draft: &mut Draft, op: TosOp) -> Result<(), AllocError>
+    ensures { OnOk result (draft.new ≡ with_pieces draft.old (remainder_first op ∷ [])) }
+{
+    put(draft, &[Call(Callee::Routine(Routine::Tos(op, Width::Ax)))])
+}
+
 pub fn division(draft: &mut Draft, op: TosOp) -> Result<(), AllocError>
     ensures { OnOk result (draft.new ≡ with_pieces draft.old (division_pieces op)) }
 {
     match op {
         TosOp::UDiv => {
-            divide(draft)?;
+            take_remainder(draft, TosOp::UMod)?;
             put(draft, &QUOTIENT)?;
             put(draft, &BACK)
         }
@@ -332,7 +339,7 @@ pub fn division(draft: &mut Draft, op: TosOp) -> Result<(), AllocError>
             put(draft, &BACK)
         }
         TosOp::Div => {
-            divide_signed(draft)?;
+            take_remainder(draft, TosOp::Mod)?;
             put(draft, &QUOTIENT)?;
             sign_by(draft, TMP2)?;
             put(draft, &BACK)

@@ -1,7 +1,7 @@
 // The software stack: pushes, pops, moves of its pointer, loads and stores.
 ghost use Rattle.std.specs.Prelude.{◌≡◌, OnOk};
-ghost use Rattle.c65_rtl.specs.Assembly.{with_pieces};
-ghost use Rattle.c65_rtl.specs.Stack.{raise_by_pieces, lower_by_pieces, raise_pieces, lower_pieces, push_pieces, pop_pieces, load_pieces, store_pieces, top_word_pieces};
+ghost use Rattle.c65_rtl.specs.Assembly.{with_lines, with_pieces};
+ghost use Rattle.c65_rtl.specs.Stack.{raise_by_number, lower_by_number, raise_pieces, lower_pieces, push_pieces, pop_pieces, load_pieces, store_pieces, top_word_pieces};
 
 use crate::places::{PTR1, PTR2, SP, SREG};
 use crate::writing::{index, put};
@@ -11,7 +11,7 @@ use c65_code::{Count, Draft, Line, Routine};
 use c65_mach::Mode::{Immediate, Implied, IndirectY, Relative, ZeroPage};
 use c65_mach::Op::{
     Adc, Bcc, Bcs, Beq, Bne, Clc, Cpy, Dec, Dey, Eor, Inc, Iny, Lda, Ldx, Ldy, Pha, Pla, Rts, Sbc,
-    Sec, Sta, Sty, Tax, Txa, Tya,
+    Sec, Sta, Sty, Tax, Tay, Txa, Tya,
 };
 use std::alloc::AllocError;
 
@@ -220,18 +220,46 @@ const POINTERS: [Line; 12] = [
 /// The way back.
 pub const BACK: [Line; 1] = [Do(Rts, Implied, Nothing)];
 
-fn raise_by(draft: &mut Draft, y: u8) -> Result<(), AllocError>
-    ensures { OnOk result (draft.new ≡ with_pieces draft.old (raise_by_pieces y)) }
+// Raises sp by a number, and keeps A, which waits in Y, and X.
+fn raise_by(draft: &mut Draft, number: u8) -> Result<(), AllocError>
+    ensures { OnOk result (draft.new ≡ with_lines draft.old (raise_by_number number)) }
 {
-    put(draft, &[index(y)])?;
-    put(draft, &RAISE_BY_Y)
+    put(
+        draft,
+        &[
+            Do(Tay, Implied, Nothing),
+            Do(Lda, ZeroPage, Zero(SP)),
+            Do(Clc, Implied, Nothing),
+            Do(Adc, Immediate, Byte(number)),
+            Do(Sta, ZeroPage, Zero(SP)),
+            Do(Bcc, Relative, To(0)),
+            Do(Inc, ZeroPage, Zero(SP + 1)),
+            Label(0),
+            Do(Tya, Implied, Nothing),
+            Do(Rts, Implied, Nothing),
+        ],
+    )
 }
 
-fn lower_by(draft: &mut Draft, y: u8) -> Result<(), AllocError>
-    ensures { OnOk result (draft.new ≡ with_pieces draft.old (lower_by_pieces y)) }
+// Lowers sp by a number, and keeps A, which waits in Y, and X.
+fn lower_by(draft: &mut Draft, number: u8) -> Result<(), AllocError>
+    ensures { OnOk result (draft.new ≡ with_lines draft.old (lower_by_number number)) }
 {
-    put(draft, &[index(y)])?;
-    put(draft, &LOWER_BY_Y)
+    put(
+        draft,
+        &[
+            Do(Tay, Implied, Nothing),
+            Do(Lda, ZeroPage, Zero(SP)),
+            Do(Sec, Implied, Nothing),
+            Do(Sbc, Immediate, Byte(number)),
+            Do(Sta, ZeroPage, Zero(SP)),
+            Do(Bcs, Relative, To(0)),
+            Do(Dec, ZeroPage, Zero(SP + 1)),
+            Label(0),
+            Do(Tya, Implied, Nothing),
+            Do(Rts, Implied, Nothing),
+        ],
+    )
 }
 
 /// Raises sp, keeps A and X, and goes back: the end of every routine that pops.

@@ -12,14 +12,14 @@ use Rattle.c65_code.specs.declared.routine.Width.TheVariants.{Ax}
 use Rattle.c65_code.specs.Rows.{Row, row_by, giving, popping, costing, by_bytes}
 use Rattle.c65_code.specs.RawMachine.{RawSetting, Bounds, IsReachable, called, MayRun, Runs, MeetsRow, reach_of}
 use Rattle.c65_rtl.specs.Assembly.{sp, value, by_y}
-use Rattle.c65_rtl.specs.Stack.{raise_by_y}
+use Rattle.c65_rtl.specs.Stack.{raise_by_number}
 use Rattle.c65_rtl.specs.Routines.{lines_of}
 use Rattle.c65_rtl.proofs.Ways.{Ends}
 use Rattle.c65_rtl.proofs.Rounds.{leads_round, onward_round}
 use Rattle.c65_rtl.proofs.Meeting.{ends_by}
 use Rattle.c65_rtl.proofs.Opens.{OpenBytes, opens_near}
-use Rattle.c65_rtl.proofs.SpPieces.{left}
-use Rattle.c65_rtl.proofs.SpMoves.{with_y_at, raise_by_at}
+use Rattle.c65_rtl.proofs.SpPieces.{left, raise_by_at}
+use Rattle.c65_rtl.proofs.SpMoves.{with_y_at}
 use Rattle.c65_rtl.proofs.Pushes.{meets_by}
 use Rattle.c65_rtl.proofs.Stores.{reach_as}
 use Rattle.c65_rtl.proofs.Loads.{load_word_on, load_word_at, word_low, word_high}
@@ -79,8 +79,8 @@ finished s back t may near far B u c =
     let to : State = record (called back t) { regs = record { a = t.mem (sp_of t); x = c.x; y = c.y; n = c.nf; v = t.regs.v; z = c.zf; c = t.regs.c }; zp = c.zp; mem = c.mem } in
     subst (λ (k : State). leads_round s.place (reach_of t) (Ends (memset_row t) t) B (5 ∷ 4 ∷ 3 ∷ 2 ∷ []) end_lines None k) (sym c.is)
     (onward_round s.place (reach_of t) (Ends (memset_row t) t) B end_lines (5 ∷ 4 ∷ 3 ∷ 2 ∷ []) refl None to
-    (with_y_at s.place (reach_of t) (Ends (memset_row t) t) 3 (load_word_on (value Ldy 4 ∷ raise_by_y)) to (λ m w.
-    load_word_at s.place (reach_of t) (Ends (memset_row t) t) (value Ldy 4 ∷ raise_by_y) (sp_of t + 2) (record to { regs = record to.regs { y = 3; n = m; z = w } }) (omega arith) (omega arith)
+    (with_y_at s.place (reach_of t) (Ends (memset_row t) t) 3 (load_word_on (raise_by_number 4)) to (λ m w.
+    load_word_at s.place (reach_of t) (Ends (memset_row t) t) (raise_by_number 4) (sp_of t + 2) (record to { regs = record to.regs { y = 3; n = m; z = w } }) (omega arith) (omega arith)
     (near.reach 2 k2) (reach_as s.place (reach_of t) (sp_of t + 2 + 1) (sp_of t + 3) next (near.reach 3 k3))
     (λ a x y n z is_a is_x. raise_by_at s.place (reach_of t) (Ends (memset_row t) t) 4 (record to { regs = record to.regs { a = a; x = x; y = y; n = n; z = z } }) (omega arith) (omega arith) (omega arith) (omega arith)
     (λ y n v z c' zp moved. let sp_is = moved.sp in ends_by (memset_row t) t (left (called back t) a x y n v z c' zp c.mem)

@@ -10,12 +10,12 @@ use Rattle.c65_code.specs.LineState.{State, write, sp_of, eax_of}
 use Rattle.c65_code.specs.Rows.{Row, Meets, row_by, popping, giving, long_at, unary_row}
 use Rattle.c65_code.specs.RawMachine.{RawSetting, IsReachable, called}
 use Rattle.c65_rtl.specs.Assembly.{sreg, implied, value, zero_page}
-use Rattle.c65_rtl.specs.Stack.{raise_by_y}
+use Rattle.c65_rtl.specs.Stack.{raise_by_number}
 use Rattle.c65_rtl.specs.Routines.{lines_of}
 use Rattle.c65_rtl.proofs.Ways.{Ends}
 use Rattle.c65_rtl.proofs.Meeting.{ends_by}
-use Rattle.c65_rtl.proofs.SpPieces.{left}
-use Rattle.c65_rtl.proofs.SpMoves.{with_y_at, raise_by_at}
+use Rattle.c65_rtl.proofs.SpPieces.{left, raise_by_at}
+use Rattle.c65_rtl.proofs.SpMoves.{with_y_at}
 use Rattle.c65_rtl.proofs.Pushes.{sreg_kept}
 use Rattle.c65_rtl.proofs.Loads.{load_word_on, load_word_at, load_sreg_on, load_sreg_at}
 use Rattle.c65_rtl.proofs.Longs.{IsLong, is_long}
@@ -32,9 +32,9 @@ abbrev pub popeax_row : State → Row
 popeax_row t = record (giving Eax (long_at t.mem (sp_of t)) (popping 4 t (row_by routines.PopEax t))) { room = 0 }
 
 abbrev popeax_lines : List Line
-popeax_lines = value Ldy 3 ∷ load_sreg_on (load_word_on (value Ldy 4 ∷ raise_by_y))
+popeax_lines = value Ldy 3 ∷ load_sreg_on (load_word_on (raise_by_number 4))
 
-pub pop_long_comes : (s : RawSetting) → s.lines (s.routine routines.PopEax) ≡ lines_of routines.PopEax → ComesIn s 0 1 22 popeax_row routines.PopEax
+pub pop_long_comes : (s : RawSetting) → s.lines (s.routine routines.PopEax) ≡ lines_of routines.PopEax → ComesIn s 0 0 21 popeax_row routines.PopEax
 pop_long_comes s has = straight_comes s 0 routines.PopEax popeax_row popeax_lines (λ t. refl) has refl
     (λ bounds back t may. let P : State → Type 0 = Ends (popeax_row t) t in
     let opens = all_in_range (IsReachable s.place bounds) 4 (sp_of t) may.near in
@@ -44,9 +44,9 @@ pop_long_comes s has = straight_comes s 0 routines.PopEax popeax_row popeax_line
     let r2 : IsReachable s.place bounds (sp_of t + 2) = opens 2 (omega arith) in
     let r3 : IsReachable s.place bounds (sp_of t + 3) = opens 3 (omega arith) in
     let end : sp_of t + 3 < 65520 = low_enough s.place bounds (sp_of t + 3) may.data_low r3 in
-    with_y_at s.place bounds P 3 (load_sreg_on (load_word_on (value Ldy 4 ∷ raise_by_y))) (called back t) (λ m0 w0.
-    load_sreg_at s.place bounds P (load_word_on (value Ldy 4 ∷ raise_by_y)) (sp_of t) (record (called back t) { regs = record t.regs { y = 3; n = m0; z = w0 } }) (omega arith) (omega arith) r2 r3
-    (λ b l h m w is_l is_h. load_word_at s.place bounds P (value Ldy 4 ∷ raise_by_y) (sp_of t)
+    with_y_at s.place bounds P 3 (load_sreg_on (load_word_on (raise_by_number 4))) (called back t) (λ m0 w0.
+    load_sreg_at s.place bounds P (load_word_on (raise_by_number 4)) (sp_of t) (record (called back t) { regs = record t.regs { y = 3; n = m0; z = w0 } }) (omega arith) (omega arith) r2 r3
+    (λ b l h m w is_l is_h. load_word_at s.place bounds P (raise_by_number 4) (sp_of t)
     (record (called back t) { regs = record t.regs { a = b; y = 1; n = m; z = w }; zp = write (write t.zp 3 h) 2 l }) (omega arith) (omega arith) r0 r1
     (λ a x y n z is_a is_x.
     let long : IsLong t.mem (sp_of t) a x l h = is_long t.mem (sp_of t) a x l h may.bytes.mem is_a is_x is_l is_h in
@@ -72,7 +72,7 @@ pop_long_comes s has = straight_comes s 0 routines.PopEax popeax_row popeax_line
     }))))))
 
 pub pop_long_in : IsMetIn routines.PopEax
-pop_long_in s has = meets_loud s 0 1 22 popeax_row routines.PopEax (λ t. refl) (λ t. refl) (λ t. omega arith) (pop_long_comes s has)
+pop_long_in s has = meets_loud s 0 0 21 popeax_row routines.PopEax (λ t. refl) (λ t. refl) (λ t. omega arith) (pop_long_comes s has)
 
 -- A number of 32 bits popped to EAX: all else is as before, but Y and the flags.
 pub record PoppedLong (t u : State) : Type 0 where

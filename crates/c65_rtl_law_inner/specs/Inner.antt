@@ -19,8 +19,6 @@ below_of _ = 0
 
 -- bytes of page 1 below the return point
 abbrev pub pushed_of : Routine → ℕ
-pushed_of (routines.IncSp Four) = 1
-pushed_of routines.PopEax = 1
 pushed_of routines.PushAx = 1
 pushed_of routines.Push0 = 1
 pushed_of _ = 0
@@ -28,10 +26,10 @@ pushed_of _ = 0
 -- instructions, where a branch weighs 2
 abbrev pub weight_of : Routine → Row → ℕ
 weight_of (routines.IncSp One) row = 5
-weight_of (routines.IncSp Four) row = 11
+weight_of (routines.IncSp Four) row = 10
 weight_of routines.PopA row = 7
 weight_of routines.PopAx row = 15
-weight_of routines.PopEax row = 22
+weight_of routines.PopEax row = 21
 weight_of routines.PushA row = 8
 weight_of routines.PushAx row = 15
 weight_of routines.Push0 row = 17

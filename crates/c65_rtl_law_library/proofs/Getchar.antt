@@ -276,7 +276,7 @@ fair : (input : List ℕ) (t : State) → (suc (weight_in takes getchar_lines) �
 fair [] t = (omega arith, omega arith)
 fair (v ∷ rest) t = (omega arith, omega arith)
 
-pub getchar_comes : (s : RawSetting) → Holds s (routines.Library Getchar) → Holds s routines.PushA → Holds s routines.Push0 → Holds s routines.PushAx → Holds s routines.PopA → Holds s (routines.IncSp One) → ComesIn s 5 3 (weight_in takes getchar_lines) getchar_row (routines.Library Getchar)
+pub getchar_comes : (s : RawSetting) → Holds s (routines.Library Getchar) → Holds s routines.PushA → Holds s routines.Push0 → Holds s routines.PushAx → Holds s routines.PopA → Holds s (routines.IncSp One) → ComesIn s 6 3 (weight_in takes getchar_lines) getchar_row (routines.Library Getchar)
 getchar_comes s has byte_has zero_has word_has pop_has raise_has bounds back t may =
     let hard = may.hard in
     walks_calling s bounds 3 takes (routines.Library Getchar) (getchar_row t) back t getchar_lines has refl hard may.bytes may.running (ends_not t.input t)
@@ -291,7 +291,7 @@ loud_is [] t = refl
 loud_is (v ∷ rest) t = refl
 
 pub getchar : CharactersAreRead
-getchar s has byte_has zero_has word_has pop_has raise_has = met_within s 5 3 (weight_in takes getchar_lines) (routines.Library Getchar) getchar_row (λ t. refl)
-    (meets_loud s 5 3 (weight_in takes getchar_lines) getchar_row (routines.Library Getchar) (λ t. ap Some (loud_is t.input t)) (λ t. ends_not t.input t) (λ t. let e = room_is t.input t in omega arith)
+getchar s has byte_has zero_has word_has pop_has raise_has = met_within s 6 3 (weight_in takes getchar_lines) (routines.Library Getchar) getchar_row (λ t. refl)
+    (meets_loud s 6 3 (weight_in takes getchar_lines) getchar_row (routines.Library Getchar) (λ t. ap Some (loud_is t.input t)) (λ t. ends_not t.input t) (λ t. let e = room_is t.input t in omega arith)
     (getchar_comes s has byte_has zero_has word_has pop_has raise_has))
     (omega arith) (omega arith) (λ t. fair t.input t)

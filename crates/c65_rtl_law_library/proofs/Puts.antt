@@ -100,9 +100,9 @@ word_other m at low high b e f = write_other (write m at low) (at + 1) high b f 
 abbrev takes : ℕ → Routine → Takes
 takes count routines.PushAx = record { below = 2; pushed = 1; weight = 15 }
 takes count routines.LdAxYSp = record { below = 0; pushed = 0; weight = 5 }
-takes count (routines.IncSp c) = record { below = 0; pushed = 1; weight = 11 }
+takes count (routines.IncSp c) = record { below = 0; pushed = 0; weight = 10 }
 takes count (routines.Library Strlen) = record { below = 0; pushed = 0; weight = 12 * count + 44 }
-takes count (routines.Library Putchar) = record { below = 5; pushed = 3; weight = 72 }
+takes count (routines.Library Putchar) = record { below = 6; pushed = 3; weight = 87 }
 takes count _ = record { below = 0; pushed = 0; weight = 0 }
 
 abbrev Forward : RawSetting → Bounds → ℕ → (State → Type 0) → List Line → State → Type 0
@@ -259,7 +259,7 @@ above_places i two out =
     omega arith
 
 module _ (s : RawSetting) (back : Place) (t : State) (word_has : Holds s routines.PushAx) (length_has : Holds s (routines.Library Strlen)) (load_has : Holds s routines.LdAxYSp) (raise_has : Holds s (routines.IncSp Four))
-    (put_has : Holds s (routines.Library Putchar)) (byte_has : Holds s routines.PushA) (pop_has : Holds s routines.PopA) (may : MayRun s (puts_row t) t) where
+    (put_has : Holds s (routines.Library Putchar)) (pop_has : Holds s routines.PopAx) (may : MayRun s (puts_row t) t) where
   abbrev P : State → Type 0
   P = Ends (puts_row t) t
 
@@ -465,7 +465,7 @@ module _ (s : RawSetting) (back : Place) (t : State) (word_has : Holds s routine
       let pushed = ap (λ (ps : List ℕ). length ps) k.pushed in
       feed_at s bounds (count_of t) P u (record {
         row = putchar_row (feeding u);
-        comes = λ may_in from. putchar_comes s put_has byte_has word_has pop_has bounds from (feeding u) may_in;
+        comes = λ may_in from. putchar_comes s put_has word_has pop_has bounds from (feeding u) may_in;
         goes_on = refl;
         ready = refl;
         near = All-nil (IsReachable s.place bounds);
@@ -594,4 +594,4 @@ module _ (s : RawSetting) (back : Place) (t : State) (word_has : Holds s routine
       }
 
 pub puts : LinesAreWritten
-puts s has word_has length_has load_has raise_has put_has byte_has pop_has = meets_by s (routines.Library Puts) puts_row (λ t. refl) (λ back t may. runs_so s back t word_has length_has load_has raise_has put_has byte_has pop_has may has)
+puts s has word_has length_has load_has raise_has put_has pop_has = meets_by s (routines.Library Puts) puts_row (λ t. refl) (λ back t may. runs_so s back t word_has length_has load_has raise_has put_has pop_has may has)

@@ -28,6 +28,7 @@ takes routines.PushA = record { below = 1; pushed = 0; weight = 8 }
 takes routines.PushAx = record { below = 2; pushed = 1; weight = 15 }
 takes routines.Push0 = record { below = 2; pushed = 1; weight = 17 }
 takes routines.PopA = record { below = 0; pushed = 0; weight = 7 }
+takes routines.PopAx = record { below = 0; pushed = 0; weight = 15 }
 takes _ = record { below = 0; pushed = 0; weight = 5 }
 
 abbrev pub one_on : List Line → List Line
@@ -151,16 +152,16 @@ found t file low high fits =
           ∙ (write_other m2 a4 0 b (far a4 (omega arith) (omega arith)) ∙ (write_other m1 a3 file b (far a3 (omega arith) (omega arith)) ∙ write_other t.mem a1 t.regs.a b (far a1 (omega arith) (omega arith)))));
     }
 
--- what holds at a call that has the room
+-- what holds at a call that has the room: three words
 pub record Within (s : RawSetting) (bounds : Bounds) (t : State) : Type 0 where
-  pub soft : bounds.soft + 5 ≤ sp_of t
+  pub soft : bounds.soft + 6 ≤ sp_of t
   pub high : sp_of t ≤ stack_end
   pub low : LieLow s.place
   pub bytes : IsBytes t
   pub running : t.ended ≡ None
 
 -- a word is pushed
-pub word_calls : (s : RawSetting) (bounds : Bounds) (P : State → Type 0) (t : State) → Holds s routines.PushAx → Within s bounds t → (unread told : List ℕ) (depth : ℕ) (memory : Bytes) (rest : List Line) (u : State) → depth + 2 ≤ 5 → Deep t depth memory unread told u
+pub word_calls : (s : RawSetting) (bounds : Bounds) (P : State → Type 0) (t : State) → Holds s routines.PushAx → Within s bounds t → (unread told : List ℕ) (depth : ℕ) (memory : Bytes) (rest : List Line) (u : State) → depth + 2 ≤ 6 → Deep t depth memory unread told u
     → ((w : State) → Meets (pushax_row u) u w → IsBytes w → Deep t (depth + 2) (write (write memory (sp_of t - (depth + 2)) u.regs.a) (sp_of t - (depth + 2) + 1) u.regs.x) unread told w → Forward s bounds P rest w)
     → Forward s bounds P (call routines.PushAx ∷ rest) u
 word_calls s bounds P t has within unread told depth memory rest u few k follows =

@@ -13,7 +13,7 @@ Holds s r = s.lines (s.routine r) ≡ lines_of r
 
 -- `putchar` (C90 7.9.7.9), wherever its lines do, and those of the routines that it calls
 abbrev pub CharactersAreWritten : Type 0
-CharactersAreWritten = (s : RawSetting) → Holds s (routines.Library Putchar) → Holds s routines.PushA → Holds s routines.PushAx → Holds s routines.PopA → MeetsRow s (routines.Library Putchar)
+CharactersAreWritten = (s : RawSetting) → Holds s (routines.Library Putchar) → Holds s routines.PushAx → Holds s routines.PopAx → MeetsRow s (routines.Library Putchar)
 
 -- `getchar` (C90 7.9.7.6)
 abbrev pub CharactersAreRead : Type 0
@@ -22,4 +22,4 @@ CharactersAreRead = (s : RawSetting) → Holds s (routines.Library Getchar) → 
 -- `puts` (C90 7.9.7.10)
 abbrev pub LinesAreWritten : Type 0
 LinesAreWritten = (s : RawSetting) → Holds s (routines.Library Puts) → Holds s routines.PushAx → Holds s (routines.Library Strlen) → Holds s routines.LdAxYSp → Holds s (routines.IncSp Four)
-    → Holds s (routines.Library Putchar) → Holds s routines.PushA → Holds s routines.PopA → MeetsRow s (routines.Library Puts)
+    → Holds s (routines.Library Putchar) → Holds s routines.PopAx → MeetsRow s (routines.Library Puts)

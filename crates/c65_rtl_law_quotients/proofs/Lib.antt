@@ -1,6 +1,7 @@
 pub mod Rounds
 pub mod Pieces
 pub mod Dividing
+pub mod Leaving
 pub mod Results
 pub mod Unsigned
 pub mod SignPieces

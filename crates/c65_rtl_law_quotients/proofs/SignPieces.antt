@@ -64,15 +64,15 @@ sum_low u = bit_xor u.regs.a 255 + 1 + 0
 abbrev pub sum_high : State → ℕ
 sum_high u = bit_xor u.regs.x 255 + 0 + bit (nat_lt 255 (sum_low u))
 
-abbrev pub Signs : ℕ → RawSetting → Bounds → (State → Type 0) → (ℕ → State → Type 0) → State → Type 0
-Signs sign s bounds P B u = u.pushed ≡ [] → ((n z : Bool) → nat_lt 127 (u.zp sign) ≡ false → P (record u { regs = record u.regs { y = u.zp sign; n = n; z = z } }))
+abbrev pub Signs : ℕ → List ℕ → RawSetting → Bounds → (State → Type 0) → (ℕ → State → Type 0) → State → Type 0
+Signs sign passed s bounds P B u = u.pushed ≡ [] → ((n z : Bool) → nat_lt 127 (u.zp sign) ≡ false → P (record u { regs = record u.regs { y = u.zp sign; n = n; z = z } }))
     → ((n v z c : Bool) → nat_lt 127 (u.zp sign) ≡ true → P (record u { regs = record { a = sum_low u % 256; x = sum_high u % 256; y = sum_low u % 256; n = n; v = v; z = z; c = c } }))
-    → Ways s bounds P B (3 ∷ 2 ∷ 1 ∷ 0 ∷ []) (signed_on sign back_lines) u
+    → Ways s bounds P B passed (signed_on sign back_lines) u
 
-pub quotient_signs : (s : RawSetting) (bounds : Bounds) (P : State → Type 0) (B : ℕ → State → Type 0) (u : State) → Signs 17 s bounds P B u
+pub quotient_signs : (s : RawSetting) (bounds : Bounds) (P : State → Type 0) (B : ℕ → State → Type 0) (u : State) → Signs 17 [] s bounds P B u
 unfolding leads_turn
 quotient_signs s bounds P B u none plus minus = elim [ true ↦ λ e. returns P _ none (plus _ _ (not_true _ e)) | false ↦ λ e. returns P _ none (minus _ _ _ _ (not_false _ e)) ]
 
-pub remainder_signs : (s : RawSetting) (bounds : Bounds) (P : State → Type 0) (B : ℕ → State → Type 0) (u : State) → Signs 16 s bounds P B u
+pub remainder_signs : (s : RawSetting) (bounds : Bounds) (P : State → Type 0) (B : ℕ → State → Type 0) (u : State) → Signs 16 (3 ∷ 2 ∷ 1 ∷ 0 ∷ []) s bounds P B u
 unfolding leads_turn
 remainder_signs s bounds P B u none plus minus = elim [ true ↦ λ e. returns P _ none (plus _ _ (not_true _ e)) | false ↦ λ e. returns P _ none (minus _ _ _ _ (not_false _ e)) ]

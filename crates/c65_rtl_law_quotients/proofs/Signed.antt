@@ -1,30 +1,30 @@
 -- `tosdivax` and `tosmodax` (C90 6.3.5)
-use Rattle.std.proofs.Common.{◌≡◌, ◌≢◌, ℕ, suc, ◌+◌, ◌*◌, ◌<◌, ◌≤◌, Bool, true, not, List, [], ◌∷◌, Option, refl, sym, ap, ◌∙◌, arith}
+use Rattle.std.proofs.Common.{◌≡◌, ◌≢◌, ℕ, suc, ◌+◌, ◌*◌, ◌<◌, ◌≤◌, Bool, true, not, List, [], ◌∷◌, Option, None, refl, sym, ap, ◌∙◌, arith}
 use Rattle.std.specs.Prelude.{nat_lt, bit_xor}
 use Rattle.std.specs.Bool.{beq}
 use Rattle.std.proofs.lemmas.List.Elements.{All-nil}
 use Rattle.c65_mach.specs.State.{Regs}
 use Rattle.c65_code.specs.declared.routine.Routine.TheVariants as routines
-use Rattle.c65_code.specs.declared.routine.TosOp.{TosOp}
 use Rattle.c65_code.specs.declared.routine.TosOp.TheVariants as tos
 use Rattle.c65_code.specs.declared.routine.Width.TheVariants.{Ax}
 use Rattle.c65_code.specs.declared.line.Line.{Line}
 use Rattle.c65_code.specs.LineState.{Place, Bytes, State, write, word_at, sp_of, ax_of, IsBytes}
 use Rattle.c65_code.specs.Numbers.{divided, is_negative, magnitude, with_sign, signed_quotient, signed_remainder}
 use Rattle.c65_code.specs.Moves.{settle, labelled}
-use Rattle.c65_code.specs.RawMachine.{RawSetting, Bounds, IsReachable, called}
+use Rattle.c65_code.specs.RawMachine.{RawSetting, Bounds, IsReachable, RawComes, HasDone, called, entry_of}
 use Rattle.c65_rtl.proofs.Ways.{Ends}
 use Rattle.c65_rtl.proofs.Meeting.{eq_false, write_other}
 use Rattle.c65_rtl_law_walks.specs.Inside.{MayRunIn}
 use Rattle.c65_rtl_law_walks.proofs.Turning.{turn_weight, TurnsIn}
-use Rattle.c65_rtl_law_walks.proofs.Meets.{Leads, turning_meets, met_within}
+use Rattle.c65_rtl_law_walks.proofs.Meets.{turning_meets, met_within}
 use Rattle.c65_rtl_law_inner.proofs.Pops.{popax_row, pop_word_comes, Popped, popped}
 use Rattle.c65_rtl_law_inner.proofs.Beside.{Beside, outside}
-use Rattle.c65_rtl_law_quotients.specs.Rows.{Holds, IsMet}
+use Rattle.c65_rtl_law_quotients.specs.Rows.{Holds, IsMet, IsMetBy}
 use Rattle.c65_rtl_law_quotients.proofs.Rounds.{Divided, after_all}
 use Rattle.c65_rtl_law_quotients.proofs.Pieces.{takes, Ways, divide_on, terms_on, begun, begin_at, pointed, terms_at, held, dividend_at, quotient_on, remainder_on, back_lines, quotient_at, remainder_at}
 use Rattle.c65_rtl_law_quotients.proofs.Dividing.{places, Terms, Dividing, Behind, divide_go, before}
-use Rattle.c65_rtl_law_quotients.proofs.Results.{result_row, goes_on, near_of, modest, result_ends, result_by}
+use Rattle.c65_rtl_law_quotients.proofs.Leaving.{IsLeft, leaves_turning, calls_first, first_meets}
+use Rattle.c65_rtl_law_quotients.proofs.Results.{result_row, goes_on, may_pop, may_pop_called, Leaves, still_leaves, beside_called, modest, result_ends, result_by}
 use Rattle.c65_rtl_law_quotients.proofs.SignPieces.{signs_on, marked, signs_at, first_on, second_on, negated, first_at, with_sign_of, second_at, signed_on, Signs, quotient_signs, remainder_signs}
 use Rattle.c65_rtl_law_quotients.proofs.SignNumbers.{word_negative, plain, turned, magnitude_fits, magnitude_some, signs_differ, minus_ax}
 
@@ -159,55 +159,103 @@ ready back t u z bytes p =
       is = omega arith;
     }
 
-leads : (s : RawSetting) → Holds s routines.PopAx → (rest : List Line) → ((m : ℕ) → turn_weight takes m (3 ∷ 2 ∷ 1 ∷ 0 ∷ []) rest ≤ 20) → (op : TosOp) (result : Option ℕ) (bounds : Bounds) (back : Place) (t : State) → MayRunIn s bounds 0 2 (result_row op result t) t
-    → Follows s bounds (Ends (result_row op result t) t) rest t → Leads s bounds 2 takes (result_row op result t) back (signed_lines rest) (Going t) 360 t
-leads s pops rest light op result bounds back t may behind =
-    let low = may.bytes.mem (sp_of t) in
-    let high = may.bytes.mem (sp_of t + 1) in
-    let small : magnitude Ax (dividend_of t) < 65536 = magnitude_fits (dividend_of t) (omega arith) in
-    let P : State → Type 0 = Ends (result_row op result t) t in
+dividend_fits : (t : State) → IsBytes t → magnitude Ax (dividend_of t) < 65536
+dividend_fits t bytes =
+    let low = bytes.mem (sp_of t) in
+    let high = bytes.mem (sp_of t + 1) in
+    magnitude_fits (dividend_of t) (omega arith)
+
+enters : (s : RawSetting) → Holds s routines.PopAx → (P : State → Type 0) (rest : List Line) (bounds : Bounds) (back : Place) (t : State) → MayRunIn s bounds 0 2 (popax_row t) t
+    → Follows s bounds P rest t → Ways s bounds P (λ j v. Going t j 360 v) [] (signed_lines rest) (called back t)
+enters s pops P rest bounds back t may behind =
     let B : ℕ → State → Type 0 = λ j v. Going t j 360 v in
-    record {
-      round = round s bounds P rest t small light behind;
-      leads = terms_at s bounds P B (signs_on (first_on (second_on (divide_on rest)))) (called back t) (record {
-        row = popax_row (pointed (called back t));
-        comes = λ may_in from. pop_word_comes s pops bounds from (pointed (called back t)) may_in;
-        goes_on = refl;
-        ready = refl;
-        near = near_of (IsReachable s.place bounds) op result t may.near;
-        far = All-nil (IsReachable s.place bounds);
-        soft = may.soft;
-        hard = omega arith;
-        high = may.high;
-        data_low = may.data_low;
-        follows = λ u m bytes. dividend_at s bounds P B (signs_on (first_on (second_on (divide_on rest)))) u
-            (signs_at s bounds P B (first_on (second_on (divide_on rest))) (held u) (λ z.
-            first_go s bounds P B (second_on (divide_on rest)) t (first_of t) (second_of t) (dividend_of t) (ax_of t) (marked (held u) z) refl (ready back t u z may.bytes (popped (pointed (called back t)) u m)) (λ v k.
-            second_go s bounds P B (divide_on rest) t (first_of t) (second_of t) (magnitude Ax (dividend_of t)) (ax_of t) v k (λ w j.
-            begin_at s bounds P B (1 ∷ 0 ∷ []) rest w (λ n f.
-            divide_go s bounds P B true rest t (first_of t) (second_of t) (magnitude Ax (dividend_of t)) (magnitude Ax (ax_of t)) 15 (begun w n f) behind small (omega arith)
-            (before t (first_of t) (second_of t) (magnitude Ax (dividend_of t)) (magnitude Ax (ax_of t)) w n f j.low j.high j.is j.beside j.terms)
-            (λ m w e k. (refl, (m, (omega arith), (omega arith), k))))))));
-      });
-    }
+    terms_at s bounds P B (signs_on (first_on (second_on (divide_on rest)))) (called back t) (record {
+      row = popax_row (pointed (called back t));
+      comes = λ may_in from. pop_word_comes s pops bounds from (pointed (called back t)) may_in;
+      goes_on = refl;
+      ready = refl;
+      near = may.near;
+      far = All-nil (IsReachable s.place bounds);
+      soft = may.soft;
+      hard = omega arith;
+      high = may.high;
+      data_low = may.data_low;
+      follows = λ u m bytes. dividend_at s bounds P B (signs_on (first_on (second_on (divide_on rest)))) u
+          (signs_at s bounds P B (first_on (second_on (divide_on rest))) (held u) (λ z.
+          first_go s bounds P B (second_on (divide_on rest)) t (first_of t) (second_of t) (dividend_of t) (ax_of t) (marked (held u) z) refl (ready back t u z may.bytes (popped (pointed (called back t)) u m)) (λ v k.
+          second_go s bounds P B (divide_on rest) t (first_of t) (second_of t) (magnitude Ax (dividend_of t)) (ax_of t) v k (λ w j.
+          begin_at s bounds P B (1 ∷ 0 ∷ []) rest w (λ n f.
+          divide_go s bounds P B true rest t (first_of t) (second_of t) (magnitude Ax (dividend_of t)) (magnitude Ax (ax_of t)) 15 (begun w n f) behind (dividend_fits t may.bytes) (omega arith)
+          (before t (first_of t) (second_of t) (magnitude Ax (dividend_of t)) (magnitude Ax (ax_of t)) w n f j.low j.high j.is j.beside j.terms)
+          (λ m w e k. (refl, (m, (omega arith), (omega arith), k))))))));
+    })
 
 -- the number with its sign
 abbrev Signed : State → (State → Type 0) → Bool → Type 0
 Signed u P sign = (regs : Regs) → regs.a < 256 → regs.x < 256 → regs.a + 256 * regs.x ≡ with_sign Ax sign (u.regs.a + 256 * u.regs.x) → P (record u { regs = regs })
 
-sign_go : (sign : ℕ) (s : RawSetting) (bounds : Bounds) (P : State → Type 0) (B : ℕ → State → Type 0) (u : State) → Signs sign s bounds P B u → u.pushed ≡ [] → u.regs.a < 256 → u.regs.x < 256 → Signed u P (nat_lt 127 (u.zp sign))
-    → Ways s bounds P B (3 ∷ 2 ∷ 1 ∷ 0 ∷ []) (signed_on sign back_lines) u
-sign_go sign s bounds P B u signs none low high ends = signs none
+sign_go : (sign : ℕ) (passed : List ℕ) (s : RawSetting) (bounds : Bounds) (P : State → Type 0) (B : ℕ → State → Type 0) (u : State) → Signs sign passed s bounds P B u → u.pushed ≡ [] → u.regs.a < 256 → u.regs.x < 256 → Signed u P (nat_lt 127 (u.zp sign))
+    → Ways s bounds P B passed (signed_on sign back_lines) u
+sign_go sign passed s bounds P B u signs none low high ends = signs none
     (λ n z e. ends (record u.regs { y = u.zp sign; n = n; z = z }) low high (sym (ap (λ (b : Bool). with_sign Ax b (u.regs.a + 256 * u.regs.x)) e)))
     (λ n v z c e. ends (record { a = _; x = _; y = _; n = n; v = v; z = z; c = c }) (omega arith) (omega arith) (minus_ax u.regs.a u.regs.x low high ∙ sym (ap (λ (b : Bool). with_sign Ax b (u.regs.a + 256 * u.regs.x)) e)))
 
--- what the loop leaves
-finished : (t u : State) → IsBytes t → Dividing t (first_of t) (second_of t) (magnitude Ax (dividend_of t)) (magnitude Ax (ax_of t)) 0 u → 0 < ax_of t
-    → Divided (magnitude Ax (dividend_of t)) (magnitude Ax (ax_of t)) (u.zp 8 + 256 * u.zp 9) (u.regs.a + 256 * u.zp 13)
-finished t u bytes k some =
+divisor_some : (t : State) → IsBytes t → 0 < ax_of t → 0 < magnitude Ax (ax_of t)
+divisor_some t bytes some =
     let low = bytes.a in
     let high = bytes.x in
-    after_all 65536 (magnitude Ax (dividend_of t)) (magnitude Ax (ax_of t)) (u.zp 8 + 256 * u.zp 9) (u.regs.a + 256 * u.zp 13) (k.number (magnitude_some (ax_of t) (omega arith) some))
+    magnitude_some (ax_of t) (omega arith) some
+
+-- what the loop leaves
+finished : (t u : State) → Dividing t (first_of t) (second_of t) (magnitude Ax (dividend_of t)) (magnitude Ax (ax_of t)) 0 u → 0 < magnitude Ax (ax_of t)
+    → Divided (magnitude Ax (dividend_of t)) (magnitude Ax (ax_of t)) (u.zp 8 + 256 * u.zp 9) (u.regs.a + 256 * u.zp 13)
+finished t u k some = after_all 65536 (magnitude Ax (dividend_of t)) (magnitude Ax (ax_of t)) (u.zp 8 + 256 * u.zp 9) (u.regs.a + 256 * u.zp 13) (k.number some)
+
+abbrev remainder_of : State → Option ℕ
+remainder_of t = divided (ax_of t) (signed_remainder Ax (dividend_of t) (ax_of t))
+
+abbrev remainder_lines : List Line
+remainder_lines = signed_lines (remainder_on (signed_on 16 back_lines))
+
+abbrev with_remainder : State → Bool → Bool → State
+with_remainder u n z = record u { regs = record u.regs { x = u.zp 13; n = n; z = z } }
+
+remainder_ends : (s : RawSetting) (bounds : Bounds) (t : State) → IsBytes t → Follows s bounds (Ends (result_row tos.Mod (remainder_of t) t) t) (remainder_on (signed_on 16 back_lines)) t
+remainder_ends s bounds t bytes B u k =
+    let P : State → Type 0 = Ends (result_row tos.Mod (remainder_of t) t) t in
+    remainder_at s bounds P B (3 ∷ 2 ∷ 1 ∷ 0 ∷ []) (signed_on 16 back_lines) u (λ n z.
+    sign_go 16 (3 ∷ 2 ∷ 1 ∷ 0 ∷ []) s bounds P B (with_remainder u n z) (remainder_signs s bounds P B (with_remainder u n z)) k.beside.pushed k.remainder_low k.remainder_high
+    (λ regs low high is. result_ends tos.Mod (remainder_of t) t (record u { regs = regs }) k.beside k.terms.rest
+    (result_by (ax_of t) (signed_remainder Ax (dividend_of t) (ax_of t)) regs.a regs.x low high
+    (λ some. is ∙ (ap (λ (b : Bool). with_sign Ax b (u.regs.a + 256 * u.zp 13)) (ap (nat_lt 127) k.terms.tmp1 ∙ sym (word_negative (t.mem (sp_of t)) (first_of t) (bytes.mem (sp_of t))))
+    ∙ ap (with_sign Ax (is_negative Ax (dividend_of t))) (finished t u k (divisor_some t bytes some)).remainder)))))
+
+pub tosmodax : IsMet tos.Mod
+tosmodax s has pops = met_within s 0 2 (turn_weight takes 360 [] remainder_lines) (routines.Tos tos.Mod Ax) (λ t. result_row tos.Mod (remainder_of t) t) (λ t. refl)
+    (turning_meets s 0 2 takes (routines.Tos tos.Mod Ax) (λ t. result_row tos.Mod (remainder_of t) t) remainder_lines (λ t. refl) (λ t. goes_on tos.Mod (remainder_of t) t) has Going 360
+    (λ bounds back t may. let P : State → Type 0 = Ends (result_row tos.Mod (remainder_of t) t) t in record {
+      round = round s bounds P (remainder_on (signed_on 16 back_lines)) t (dividend_fits t may.bytes) (λ m. omega arith) (remainder_ends s bounds t may.bytes);
+      leads = enters s pops P (remainder_on (signed_on 16 back_lines)) bounds back t (may_pop s bounds 2 tos.Mod (remainder_of t) t may) (remainder_ends s bounds t may.bytes);
+    }))
+    (omega arith) (omega arith) (λ t. modest tos.Mod (remainder_of t) t _ (omega arith))
+
+-- what it leaves for the quotient's routine
+abbrev Left : State → State → Type 0
+Left t u = Leaves t (first_of t) (second_of t) (magnitude Ax (dividend_of t)) (magnitude Ax (ax_of t)) u
+
+remainder_leaves : (s : RawSetting) (bounds : Bounds) (t : State) → Follows s bounds (Left t) (remainder_on (signed_on 16 back_lines)) t
+remainder_leaves s bounds t B u k =
+    remainder_at s bounds (Left t) B (3 ∷ 2 ∷ 1 ∷ 0 ∷ []) (signed_on 16 back_lines) u (λ n z.
+    sign_go 16 (3 ∷ 2 ∷ 1 ∷ 0 ∷ []) s bounds (Left t) B (with_remainder u n z) (remainder_signs s bounds (Left t) B (with_remainder u n z)) k.beside.pushed k.remainder_low k.remainder_high
+    (λ regs low high is. record { beside = k.beside; terms = k.terms; low = k.low; high = k.high; quotient = λ some. (finished t u k some).quotient }))
+
+remainder_comes : (s : RawSetting) → Holds s (routines.Tos tos.Mod Ax) → Holds s routines.PopAx → (bounds : Bounds) (back : Place) (t : State) → t.pushed ≡ [] → MayRunIn s bounds 0 2 (popax_row t) t
+    → RawComes s bounds (IsLeft (Left t) back t) (turn_weight takes 360 [] remainder_lines) (entry_of s (s.routine (routines.Tos tos.Mod Ax))) (called back t)
+remainder_comes s has pops bounds back t none may =
+    leaves_turning s bounds 2 takes (Left t) (routines.Tos tos.Mod Ax) back t remainder_lines has
+    (λ u k. still_leaves t (first_of t) (second_of t) (magnitude Ax (dividend_of t)) (magnitude Ax (ax_of t)) u none k) (Going t)
+    (round s bounds (Left t) (remainder_on (signed_on 16 back_lines)) t (dividend_fits t may.bytes) (λ m. omega arith) (remainder_leaves s bounds t)) 360 may.hard may.bytes may.running
+    (enters s pops (Left t) (remainder_on (signed_on 16 back_lines)) bounds back t may (remainder_leaves s bounds t))
 
 abbrev quotient_of : State → Option ℕ
 quotient_of t = divided (ax_of t) (signed_quotient Ax (dividend_of t) (ax_of t))
@@ -219,39 +267,34 @@ quotient_sign t bytes k is =
     ap (nat_lt 127) is ∙ (signs_differ (first_of t) t.regs.x (bytes.mem (sp_of t + 1)) bytes.x
     ∙ (ap (λ (b : Bool). not (beq b (nat_lt 127 t.regs.x))) (sym first) ∙ ap (λ (b : Bool). not (beq (is_negative Ax (dividend_of t)) b)) (sym second)))
 
-quotient_ends : (s : RawSetting) (bounds : Bounds) (t : State) → IsBytes t → Follows s bounds (Ends (result_row tos.Div (quotient_of t) t) t) (quotient_on (signed_on 17 back_lines)) t
-quotient_ends s bounds t bytes B u k =
+quotient_ends : (s : RawSetting) (bounds : Bounds) (back : Place) (t u : State) → IsBytes t → Left (called back t) u → Ways s bounds (Ends (result_row tos.Div (quotient_of t) t) t) (λ j w. ⊥) [] (quotient_on (signed_on 17 back_lines)) u
+quotient_ends s bounds back t u bytes k =
     let P : State → Type 0 = Ends (result_row tos.Div (quotient_of t) t) t in
-    quotient_at s bounds P B (3 ∷ 2 ∷ 1 ∷ 0 ∷ []) (signed_on 17 back_lines) u (λ n z.
+    quotient_at s bounds P (λ j w. ⊥) [] (signed_on 17 back_lines) u (λ n z.
     let to : State = record u { regs = record u.regs { a = u.zp 8; x = u.zp 9; n = n; z = z } } in
-    sign_go 17 s bounds P B to (quotient_signs s bounds P B to) k.beside.pushed k.low k.high
-    (λ regs low high is. result_ends tos.Div (quotient_of t) t (record u { regs = regs }) k.beside k.terms.rest
+    sign_go 17 [] s bounds P (λ j w. ⊥) to (quotient_signs s bounds P (λ j w. ⊥) to) k.beside.pushed k.low k.high
+    (λ regs low high is. result_ends tos.Div (quotient_of t) t (record u { regs = regs }) (beside_called back t (record u { regs = regs }) k.beside) k.terms.rest
     (result_by (ax_of t) (signed_quotient Ax (dividend_of t) (ax_of t)) regs.a regs.x low high
     (λ some. is ∙ (ap (λ (b : Bool). with_sign Ax b (u.zp 8 + 256 * u.zp 9)) (quotient_sign t bytes (u.zp 17) k.terms.tmp2)
-    ∙ ap (with_sign Ax (not (beq (is_negative Ax (dividend_of t)) (is_negative Ax (ax_of t))))) (finished t u bytes k some).quotient)))))
+    ∙ ap (with_sign Ax (not (beq (is_negative Ax (dividend_of t)) (is_negative Ax (ax_of t))))) (k.quotient (divisor_some t bytes some)))))))
 
-abbrev remainder_of : State → Option ℕ
-remainder_of t = divided (ax_of t) (signed_remainder Ax (dividend_of t) (ax_of t))
+abbrev quotient_weight : ℕ
+quotient_weight = 2 + (turn_weight takes 360 [] remainder_lines + turn_weight takes 0 [] (quotient_on (signed_on 17 back_lines)))
 
-remainder_ends : (s : RawSetting) (bounds : Bounds) (t : State) → IsBytes t → Follows s bounds (Ends (result_row tos.Mod (remainder_of t) t) t) (remainder_on (signed_on 16 back_lines)) t
-remainder_ends s bounds t bytes B u k =
-    let P : State → Type 0 = Ends (result_row tos.Mod (remainder_of t) t) t in
-    remainder_at s bounds P B (3 ∷ 2 ∷ 1 ∷ 0 ∷ []) (signed_on 16 back_lines) u (λ n z.
-    let to : State = record u { regs = record u.regs { x = u.zp 13; n = n; z = z } } in
-    sign_go 16 s bounds P B to (remainder_signs s bounds P B to) k.beside.pushed k.remainder_low k.remainder_high
-    (λ regs low high is. result_ends tos.Mod (remainder_of t) t (record u { regs = regs }) k.beside k.terms.rest
-    (result_by (ax_of t) (signed_remainder Ax (dividend_of t) (ax_of t)) regs.a regs.x low high
-    (λ some. is ∙ (ap (λ (b : Bool). with_sign Ax b (u.regs.a + 256 * u.zp 13)) (ap (nat_lt 127) k.terms.tmp1 ∙ sym (word_negative (t.mem (sp_of t)) (first_of t) (bytes.mem (sp_of t))))
-    ∙ ap (with_sign Ax (is_negative Ax (dividend_of t))) (finished t u bytes k some).remainder)))))
+quotient_comes : (s : RawSetting) → Holds s (routines.Tos tos.Div Ax) → Holds s (routines.Tos tos.Mod Ax) → Holds s routines.PopAx → (bounds : Bounds) (back : Place) (t : State) → MayRunIn s bounds 0 4 (result_row tos.Div (quotient_of t) t) t
+    → RawComes s bounds (HasDone None (result_row tos.Div (quotient_of t) t) back t) quotient_weight (entry_of s (s.routine (routines.Tos tos.Div Ax))) (called back t)
+quotient_comes s has calls pops bounds back t may =
+    let deep = may.hard in
+    let inner : MayRunIn s bounds 0 2 (popax_row (called back t)) (called back t) = may_pop_called s bounds 2 back t (may_pop s bounds 4 tos.Div (quotient_of t) t may) in
+    calls_first s bounds 2 takes (routines.Tos tos.Div Ax) (routines.Tos tos.Mod Ax) (result_row tos.Div (quotient_of t) t) back t (quotient_on (signed_on 17 back_lines)) (Left (called back t)) (turn_weight takes 360 [] remainder_lines)
+    has refl (omega arith) (omega arith) may.running (record {
+      comes = λ from. remainder_comes s calls pops bounds from (called back t) refl inner;
+      goes_on = λ u k. k.beside.ended;
+      follows = λ u k. quotient_ends s bounds back t u may.bytes k;
+    })
 
-pub tosdivax : IsMet tos.Div
-tosdivax s has pops = met_within s 0 2 (turn_weight takes 360 [] (signed_lines (quotient_on (signed_on 17 back_lines)))) (routines.Tos tos.Div Ax) (λ t. result_row tos.Div (quotient_of t) t) (λ t. refl)
-    (turning_meets s 0 2 takes (routines.Tos tos.Div Ax) (λ t. result_row tos.Div (quotient_of t) t) (signed_lines (quotient_on (signed_on 17 back_lines))) (λ t. refl) (λ t. goes_on tos.Div (quotient_of t) t) has Going 360
-    (λ bounds back t may. leads s pops (quotient_on (signed_on 17 back_lines)) (λ m. omega arith) tos.Div (quotient_of t) bounds back t may (quotient_ends s bounds t may.bytes)))
+pub tosdivax : IsMetBy tos.Div tos.Mod
+tosdivax s has calls pops = met_within s 0 4 quotient_weight (routines.Tos tos.Div Ax) (λ t. result_row tos.Div (quotient_of t) t) (λ t. refl)
+    (first_meets s 0 4 quotient_weight (routines.Tos tos.Div Ax) (λ t. result_row tos.Div (quotient_of t) t) (λ t. refl) (λ t. goes_on tos.Div (quotient_of t) t)
+    (λ bounds back t may. quotient_comes s has calls pops bounds back t may))
     (omega arith) (omega arith) (λ t. modest tos.Div (quotient_of t) t _ (omega arith))
-
-pub tosmodax : IsMet tos.Mod
-tosmodax s has pops = met_within s 0 2 (turn_weight takes 360 [] (signed_lines (remainder_on (signed_on 16 back_lines)))) (routines.Tos tos.Mod Ax) (λ t. result_row tos.Mod (remainder_of t) t) (λ t. refl)
-    (turning_meets s 0 2 takes (routines.Tos tos.Mod Ax) (λ t. result_row tos.Mod (remainder_of t) t) (signed_lines (remainder_on (signed_on 16 back_lines))) (λ t. refl) (λ t. goes_on tos.Mod (remainder_of t) t) has Going 360
-    (λ bounds back t may. leads s pops (remainder_on (signed_on 16 back_lines)) (λ m. omega arith) tos.Mod (remainder_of t) bounds back t may (remainder_ends s bounds t may.bytes)))
-    (omega arith) (omega arith) (λ t. modest tos.Mod (remainder_of t) t _ (omega arith))

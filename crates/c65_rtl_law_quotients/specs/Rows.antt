@@ -16,10 +16,14 @@ Holds s r = s.lines (s.routine r) ≡ lines_of r
 abbrev pub IsMet : TosOp → Type 0
 IsMet op = (s : RawSetting) → Holds s (routines.Tos op Ax) → Holds s routines.PopAx → MeetsRow s (routines.Tos op Ax)
 
+-- a quotient's routine calls that of the remainder
+abbrev pub IsMetBy : TosOp → TosOp → Type 0
+IsMetBy op other = (s : RawSetting) → Holds s (routines.Tos op Ax) → Holds s (routines.Tos other Ax) → Holds s routines.PopAx → MeetsRow s (routines.Tos op Ax)
+
 -- `tosudivax` and `tosumodax`
 abbrev pub WordsAreDivided : Type 0
-WordsAreDivided = IsMet tos.UDiv × IsMet tos.UMod
+WordsAreDivided = IsMetBy tos.UDiv tos.UMod × IsMet tos.UMod
 
 -- `tosdivax` and `tosmodax`
 abbrev pub SignedWordsAreDivided : Type 0
-SignedWordsAreDivided = IsMet tos.Div × IsMet tos.Mod
+SignedWordsAreDivided = IsMetBy tos.Div tos.Mod × IsMet tos.Mod

@@ -142,7 +142,7 @@ pub record TurnsIn (s : RawSetting) (bounds : Bounds) (deepest : ℕ) (takes : R
   pub weighs : turn_weight takes less (passed_behind k whole []) (behind k whole) ≤ n
   pub leads : leads_turn s bounds deepest takes P (λ j u. Inv j less u) (passed_behind k whole []) (behind k whole) None t
 
-turns_in : (s : RawSetting) (bounds : Bounds) (deepest : ℕ) (takes : Routine → Takes) (Q : Place → State → Type 0) (P : State → Type 0) (f : ℕ) (whole : List Line) (frame : Frame) (frames : List Frame) (used : ℕ)
+pub turns_in : (s : RawSetting) (bounds : Bounds) (deepest : ℕ) (takes : Routine → Takes) (Q : Place → State → Type 0) (P : State → Type 0) (f : ℕ) (whole : List Line) (frame : Frame) (frames : List Frame) (used : ℕ)
     (has : s.lines f ≡ whole) (room : bounds.hard + deepest ≤ 253 - used) (ends : (u : State) → P u → IsBytes (record u { pushed = frame.pushed; frames = frames }) → Q frame.back (record u { pushed = frame.pushed; frames = frames }))
     (Inv : ℕ → ℕ → State → Type 0) → ((l n : ℕ) (t : State) → IsBytes t → Inv l n t → TurnsIn s bounds deepest takes P whole Inv l n t)
     → (fuel l n : ℕ) (t : State) → n ≤ fuel → IsBytes t → IsOwn frame frames used t → Inv l n t → RawComes s bounds Q n (f, settle whole (labelled whole l)) t

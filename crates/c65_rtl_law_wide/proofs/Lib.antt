@@ -8,4 +8,5 @@ pub mod Dividing
 pub mod Unsigned
 pub mod SignPieces
 pub mod SignNumbers
+pub mod Negation
 pub mod Signed

@@ -1,22 +1,28 @@
 -- From what the lines of 32 bits leave to their rows.
-use Rattle.std.proofs.Common.{◌≡◌, ◌≢◌, ℕ, suc, ◌+◌, ◌*◌, ◌<◌, ◌≤◌, ◌⊎◌, inl, inr, Bool, true, false, All, Option, Some, None, nat_eq, refl, sym, subst, ◌∙◌, arith}
+use Rattle.std.proofs.Common.{◌≡◌, ◌≢◌, ℕ, suc, ◌+◌, ◌*◌, ◌/◌, ◌<◌, ◌≤◌, ◌⊎◌, inl, inr, Bool, true, false, All, [], Option, Some, None, nat_eq, refl, sym, subst, ◌∙◌, arith}
 use Rattle.std.specs.Prelude.{◌==◌, if◌then◌else◌}
 use Rattle.std.proofs.lemmas.List.{append-nil}
+use Rattle.std.proofs.lemmas.List.Elements.{All-nil}
 use Rattle.std.proofs.lemmas.Bool.Decides.{eqb_tells}
 use Rattle.c65_code.specs.declared.routine.Routine.TheVariants as routines
 use Rattle.c65_code.specs.declared.routine.TosOp.{TosOp}
 use Rattle.c65_code.specs.declared.routine.Width.TheVariants.{Eax}
-use Rattle.c65_code.specs.LineState.{State, sp_of}
+use Rattle.c65_code.specs.LineState.{Place, State, sp_of}
 use Rattle.c65_code.specs.Numbers.{divided}
 use Rattle.c65_code.specs.Segments.{is_among}
 use Rattle.c65_code.specs.Texts.{range_of}
 use Rattle.c65_code.specs.Rows.{Row, low_byte, high_byte, upper_word, giving_if, costing, popping, row_by, tos_cost}
+use Rattle.c65_code.specs.RawMachine.{RawSetting, Bounds, IsReachable, called}
 use Rattle.c65_rtl.proofs.Ways.{Ends}
 use Rattle.c65_rtl.proofs.Meeting.{ends_by}
 use Rattle.c65_rtl.proofs.UnaryWords.{AreLongBytes, long_bytes_of}
+use Rattle.c65_rtl_law_walks.specs.Inside.{MayRunIn}
+use Rattle.c65_rtl_law_walks.proofs.Walks.{called_bytes}
+use Rattle.c65_rtl_law_inner.proofs.Longs.{popeax_row}
 use Rattle.c65_rtl_law_inner.proofs.Beside.{Beside, values, rewritten}
+use Rattle.c65_rtl_law_quotients.proofs.Leaving.{called_hard}
 use Rattle.c65_rtl_law_wide.proofs.Numbers.{number}
-use Rattle.c65_rtl_law_wide.proofs.Terms.{places}
+use Rattle.c65_rtl_law_wide.proofs.Terms.{places, four}
 
 -- the row of an operator that pops four bytes, with its result
 abbrev pub result_row : TosOp → Option ℕ → State → Row
@@ -34,6 +40,58 @@ near_of P op (Some v) t h = h
 pub modest : (op : TosOp) (result : Option ℕ) (t : State) (weight : ℕ) → suc weight ≤ tos_cost op → (suc weight ≤ (result_row op result t).cost) × (sp_of t ≤ (result_row op result t).sp + 64)
 modest op None t weight less = (less, omega arith)
 modest op (Some v) t weight less = (less, omega arith)
+
+-- what every division wants: that the dividend may be popped
+pub may_pop : (s : RawSetting) (bounds : Bounds) (deepest : ℕ) (op : TosOp) (result : Option ℕ) (t : State) → MayRunIn s bounds 0 deepest (result_row op result t) t → MayRunIn s bounds 0 deepest (popeax_row t) t
+may_pop s bounds deepest op result t may = record {
+  ready = refl;
+  near = near_of (IsReachable s.place bounds) op result t may.near;
+  far = All-nil (IsReachable s.place bounds);
+  soft = may.soft;
+  hard = may.hard;
+  high = may.high;
+  bytes = may.bytes;
+  running = may.running;
+  data_low = may.data_low;
+}
+
+-- by a routine that it calls too
+pub may_pop_called : (s : RawSetting) (bounds : Bounds) (deepest : ℕ) (back : Place) (t : State) → MayRunIn s bounds 0 (2 + deepest) (popeax_row t) t → MayRunIn s bounds 0 deepest (popeax_row (called back t)) (called back t)
+may_pop_called s bounds deepest back t may = record {
+  ready = refl;
+  near = may.near;
+  far = may.far;
+  soft = may.soft;
+  hard = called_hard bounds.hard deepest back t may.hard;
+  high = may.high;
+  bytes = called_bytes back t may.bytes;
+  running = may.running;
+  data_low = may.data_low;
+}
+
+-- What a remainder's routine leaves beside its result: the quotient in the dividend's place, and its sign.
+pub record Leaves (t : State) (second v d : ℕ) (u : State) : Type 0 where
+  pub beside : Beside t 4 u
+  pub rest : (i : ℕ) → 2 ≤ i → is_among places i ≡ false → u.zp i ≡ t.zp i
+  pub tmp2 : u.zp 17 ≡ second
+  pub low : u.zp 8 < 256
+  pub high : u.zp 9 < 256
+  pub quotient : 0 < d → four u.zp 8 ≡ v / d
+
+-- where nothing was pushed at its call
+pub still_leaves : (t : State) (second v d : ℕ) (u : State) → t.pushed ≡ [] → Leaves t second v d u → Leaves t second v d (record u { pushed = t.pushed; frames = t.frames })
+still_leaves t second v d u none k = record {
+  beside = record { sp = k.beside.sp; mem = k.beside.mem; pushed = none; input = k.beside.input; output = k.beside.output; ended = k.beside.ended };
+  rest = k.rest;
+  tmp2 = k.tmp2;
+  low = k.low;
+  high = k.high;
+  quotient = k.quotient;
+}
+
+-- seen from the routine that calls it
+pub beside_called : (back : Place) (t u : State) → Beside (called back t) 4 u → Beside t 4 u
+beside_called back t u k = record { sp = k.sp; mem = k.mem; pushed = k.pushed; input = k.input; output = k.output; ended = k.ended }
 
 abbrev pub IsResult : Option ℕ → ℕ → ℕ → ℕ → ℕ → Type 0
 IsResult None a x l h = Unit {0}

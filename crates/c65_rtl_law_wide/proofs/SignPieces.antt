@@ -80,19 +80,19 @@ end_lines = Label 4 ∷ back_lines
 abbrev pub signed_by : State → ℕ → Bool → Bool → State
 signed_by u sign n z = record u { regs = record u.regs { y = u.zp sign; n = n; z = z } }
 
-abbrev pub Signs : ℕ → RawSetting → Bounds → (State → Type 0) → (ℕ → State → Type 0) → State → Type 0
-Signs sign s bounds P B u = u.pushed ≡ [] → ((n z : Bool) → nat_lt 127 (u.zp sign) ≡ false → P (signed_by u sign n z))
-    → ((n z : Bool) → nat_lt 127 (u.zp sign) ≡ true → Calls s bounds 3 takes (routines.Unary Neg Eax) (leads_turn s bounds 3 takes P B (3 ∷ 2 ∷ 1 ∷ 0 ∷ []) end_lines) (signed_by u sign n z))
-    → Ways s bounds P B (3 ∷ 2 ∷ 1 ∷ 0 ∷ []) (signed_on sign back_lines) u
+abbrev pub Signs : ℕ → List ℕ → RawSetting → Bounds → (State → Type 0) → (ℕ → State → Type 0) → State → Type 0
+Signs sign passed s bounds P B u = u.pushed ≡ [] → ((n z : Bool) → nat_lt 127 (u.zp sign) ≡ false → P (signed_by u sign n z))
+    → ((n z : Bool) → nat_lt 127 (u.zp sign) ≡ true → Calls s bounds 3 takes (routines.Unary Neg Eax) (leads_turn s bounds 3 takes P B passed end_lines) (signed_by u sign n z))
+    → Ways s bounds P B passed (signed_on sign back_lines) u
 
-pub quotient_signs : (s : RawSetting) (bounds : Bounds) (P : State → Type 0) (B : ℕ → State → Type 0) (u : State) → Signs 17 s bounds P B u
+pub quotient_signs : (s : RawSetting) (bounds : Bounds) (P : State → Type 0) (B : ℕ → State → Type 0) (u : State) → Signs 17 [] s bounds P B u
 unfolding leads_turn
 quotient_signs s bounds P B u none plus minus = elim [ true ↦ λ e. returns P _ none (plus _ _ (not_true _ e)) | false ↦ λ e. minus _ _ (not_false _ e) ]
 
-pub remainder_signs : (s : RawSetting) (bounds : Bounds) (P : State → Type 0) (B : ℕ → State → Type 0) (u : State) → Signs 16 s bounds P B u
+pub remainder_signs : (s : RawSetting) (bounds : Bounds) (P : State → Type 0) (B : ℕ → State → Type 0) (u : State) → Signs 16 (3 ∷ 2 ∷ 1 ∷ 0 ∷ []) s bounds P B u
 unfolding leads_turn
 remainder_signs s bounds P B u none plus minus = elim [ true ↦ λ e. returns P _ none (plus _ _ (not_true _ e)) | false ↦ λ e. minus _ _ (not_false _ e) ]
 
-pub end_at : (s : RawSetting) (bounds : Bounds) (P : State → Type 0) (B : ℕ → State → Type 0) (u : State) → u.pushed ≡ [] → P u → Ways s bounds P B (3 ∷ 2 ∷ 1 ∷ 0 ∷ []) end_lines u
+pub end_at : (s : RawSetting) (bounds : Bounds) (P : State → Type 0) (B : ℕ → State → Type 0) (passed : List ℕ) (u : State) → u.pushed ≡ [] → P u → Ways s bounds P B passed end_lines u
 unfolding leads_turn
-end_at s bounds P B u none h = returns P u none h
+end_at s bounds P B passed u none h = returns P u none h

@@ -22,7 +22,7 @@ use Rattle.c65_rtl_law_wide.proofs.Numbers.{number}
 -- `negeax` and `popeax`
 abbrev pub takes : Routine → Takes
 takes (routines.Unary op width) = record { below = 0; pushed = 0; weight = 18 }
-takes r = record { below = 0; pushed = 1; weight = 22 }
+takes r = record { below = 0; pushed = 0; weight = 21 }
 
 abbrev pub Ways : RawSetting → Bounds → (State → Type 0) → (ℕ → State → Type 0) → List ℕ → List Line → State → Type 0
 Ways s bounds P B passed lines u = leads_turn s bounds 3 takes P B passed lines None u
@@ -96,6 +96,13 @@ pub back_at : (s : RawSetting) (bounds : Bounds) (P : State → Type 0) (B : ℕ
 unfolding leads_turn
 back_at s bounds P B passed u none h = returns P u none h
 
+-- an address that none of the places is lies behind sreg
+pub beyond : (i : ℕ) → 2 ≤ i → is_among places i ≡ false → 4 ≤ i
+beyond i two out =
+    let two_not : i ≢ 2 = outside places 2 i refl out in
+    let three_not : i ≢ 3 = outside places 3 i refl out in
+    omega arith
+
 -- Once the other term is popped, and both are in the pointers.
 pub record Ready (t u : State) : Type 0 where
   pub beside : Beside t 4 u
@@ -136,9 +143,3 @@ ready back t u n z bytes after p =
       tmp2 = p.zp 17 (omega arith);
       byte = λ i. byte_write (write (write (write u.zp 8 u.regs.a) 9 u.regs.x) 10 (u.zp 2)) 11 (u.zp 3) i (after.zp 3) (byte_write (write (write u.zp 8 u.regs.a) 9 u.regs.x) 10 (u.zp 2) i (after.zp 2) (byte_write (write u.zp 8 u.regs.a) 9 u.regs.x i after.x (byte_write u.zp 8 u.regs.a i after.a (after.zp i))));
     }
-  where
-    beyond : (i : ℕ) → 2 ≤ i → is_among places i ≡ false → 4 ≤ i
-    beyond i two out =
-        let two_not : i ≢ 2 = outside places 2 i refl out in
-        let three_not : i ≢ 3 = outside places 3 i refl out in
-        omega arith

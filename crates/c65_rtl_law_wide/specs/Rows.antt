@@ -25,13 +25,20 @@ LongsAreMultiplied = (s : RawSetting) → Holds s tos.Mul → HoldsInner s routi
 abbrev pub IsDivided : TosOp → Type 0
 IsDivided op = (s : RawSetting) → Holds s op → HoldsInner s routines.PopEax → MeetsRow s (routines.Tos op Eax)
 
+-- a quotient's routine calls that of the remainder
+abbrev pub IsDividedBy : TosOp → TosOp → Type 0
+IsDividedBy op other = (s : RawSetting) → Holds s op → Holds s other → HoldsInner s routines.PopEax → MeetsRow s (routines.Tos op Eax)
+
 -- `tosudiveax` and `tosumodeax`
 abbrev pub LongsAreDivided : Type 0
-LongsAreDivided = IsDivided tos.UDiv × IsDivided tos.UMod
+LongsAreDivided = IsDividedBy tos.UDiv tos.UMod × IsDivided tos.UMod
 
 -- `tosdiveax` and `tosmodeax`, which call `negeax` too
 abbrev pub IsSignedDivided : TosOp → Type 0
 IsSignedDivided op = (s : RawSetting) → Holds s op → HoldsInner s routines.PopEax → HoldsInner s (routines.Unary Neg Eax) → MeetsRow s (routines.Tos op Eax)
 
+abbrev pub IsSignedDividedBy : TosOp → TosOp → Type 0
+IsSignedDividedBy op other = (s : RawSetting) → Holds s op → Holds s other → HoldsInner s routines.PopEax → HoldsInner s (routines.Unary Neg Eax) → MeetsRow s (routines.Tos op Eax)
+
 abbrev pub SignedLongsAreDivided : Type 0
-SignedLongsAreDivided = IsSignedDivided tos.Div × IsSignedDivided tos.Mod
+SignedLongsAreDivided = IsSignedDividedBy tos.Div tos.Mod × IsSignedDivided tos.Mod

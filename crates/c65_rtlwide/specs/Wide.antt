@@ -63,10 +63,14 @@ divide_pieces = terms ∷ nothing_yet ∷ divide ∷ []
 abbrev pub signed_divide_pieces : List (List Line)
 signed_divide_pieces = terms ∷ signs ∷ negation ptr1 0 ∷ divisor_sign ∷ negation ptr3 1 ∷ nothing_yet ∷ divide ∷ []
 
+-- the routine of the remainder, which leaves the quotient in ptr1 and ptr2 and its sign in tmp2
+abbrev pub remainder_first : TosOp → List Line
+remainder_first op = call (routines.Tos op Eax) ∷ []
+
 abbrev pub division_pieces : TosOp → List (List Line)
-division_pieces tos.UDiv = divide_pieces ++ (quotient ∷ back ∷ [])
+division_pieces tos.UDiv = remainder_first tos.UMod ∷ quotient ∷ back ∷ []
 division_pieces tos.UMod = divide_pieces ++ (remainder ∷ back ∷ [])
-division_pieces tos.Div = signed_divide_pieces ++ (quotient ∷ signed tmp2 ∷ back ∷ [])
+division_pieces tos.Div = remainder_first tos.Mod ∷ quotient ∷ signed tmp2 ∷ back ∷ []
 division_pieces tos.Mod = signed_divide_pieces ++ (remainder ∷ signed tmp1 ∷ back ∷ [])
 division_pieces _ = []
 

@@ -3,7 +3,7 @@ ghost use Rattle.std.specs.Prelude.{◌≡◌, ◌∷◌, [], ◌+◌, ◌<◌, 
 ghost use Rattle.c65_base.specs.declared.refusal.Refusal.TheVariants.{OutOfMemory};
 ghost use Rattle.c65_rtl.specs.Assembly.{with_pieces};
 ghost use Rattle.c65_rtl.specs.Routines.{given_by};
-ghost use Rattle.c65_rtlwide.specs.Wide.{is_wide, negation, signed, divide_pieces, signed_divide_pieces, multiply_pieces, division_pieces, wide_pieces, lines_of};
+ghost use Rattle.c65_rtlwide.specs.Wide.{is_wide, negation, signed, remainder_first, divide_pieces, signed_divide_pieces, multiply_pieces, division_pieces, wide_pieces, lines_of};
 
 use crate::places::{PTR1, PTR2, PTR3, PTR4, REGSAVE, SREG, TMP1, TMP2};
 use c65_base::Refusal;
@@ -219,12 +219,22 @@ fn divide_signed(draft: &mut Draft) -> Result<(), AllocError>
     put(draft, &DIVIDE)
 }
 
+// The routine of the remainder, which leaves the quotient in ptr1 and ptr2 and its sign in tmp2.
+fn take_remainder(draft: &mut Draft, op: TosOp) -> Result<(), AllocError>
+    ensures { OnOk result (draft.new ≡ with_pieces draft.old (remainder_first op ∷ [])) }
+{
+    put(
+        draft,
+        &[Call(Callee::Routine(Routine::Tos(op, Width::Eax)))],
+    )
+}
+
 fn division(draft: &mut Draft, op: TosOp) -> Result<(), AllocError>
     ensures { OnOk result (draft.new ≡ with_pieces draft.old (division_pieces op)) }
 {
     match op {
         TosOp::UDiv => {
-            divide(draft)?;
+            take_remainder(draft, TosOp::UMod)?;
             put(draft, &QUOTIENT)?;
             put(draft, &BACK)
         }
@@ -234,7 +244,7 @@ fn division(draft: &mut Draft, op: TosOp) -> Result<(), AllocError>
             put(draft, &BACK)
         }
         TosOp::Div => {
-            divide_signed(draft)?;
+            take_remainder(draft, TosOp::Mod)?;
             put(draft, &QUOTIENT)?;
             sign_by(draft, TMP2)?;
             put(draft, &BACK)
