@@ -9,6 +9,9 @@ use Rattle.c65_code.specs.declared.line.Line.{Line}
 use Rattle.c65_code.specs.declared.line.Line.TheVariants.{Label, Do, Call}
 use Rattle.c65_code.specs.Segments.{labels_of, target_of, targets_of, is_among, is_distinct, IsSegment}
 use Rattle.c65_code.specs.Moves.{labelled}
+use Rattle.c65_code.specs.Parts.{no_parts}
+use Rattle.c65_live.specs.declared.flow.Flow.{Flow}
+use Rattle.c65_live.specs.Regions.{places_of}
 use Rattle.c65_live.specs.Flows.{Labels, labels_from, found, labelled_at, flow_by, flow_in, flow_of, flows_of}
 
 inserted_by : (a b : Bool) (e : ℕ × ℕ) (es ins : Labels) (k v q : ℕ) → nat_eq k e.0 ≡ a → nat_eq q k ≡ b → lookup (nat_eq q) ins ≡ cond b (Some v) (lookup (nat_eq q) es) → lookup (nat_eq q) (cond a ((e.0, v) ∷ es) (e ∷ ins)) ≡ cond b (Some v) (lookup (nat_eq q) (e ∷ es))
@@ -104,3 +107,13 @@ all_found all (line ∷ lines) out apart h =
 -- the flows that are looked up are those of the lines
 pub flows_found : (lines : List Line) (out : RegSet) → IsSegment lines → map (flow_in out (labels_from [] 0 lines)) lines ≡ flows_of lines out
 flows_found lines out segment = all_found lines lines out segment.labels segment.targets
+
+places_in : (f : Line → Flow) (lines : List Line) → map (λ (flow : Flow). flow.to) (map f lines) ≡ map (λ line. (f line).to) lines
+places_in f [] = refl
+places_in f (line ∷ lines) = ap (λ places. (f line).to ∷ places) (places_in f lines)
+
+-- and so are the lines to which they lead
+pub places_found : (lines : List Line) → IsSegment lines → map (λ line. found (labels_from [] 0 lines) (target_of line)) lines ≡ places_of lines
+places_found lines segment =
+    sym (places_in (flow_in no_parts (labels_from [] 0 lines)) lines)
+    ∙ (ap (map (λ (flow : Flow). flow.to)) (flows_found lines no_parts segment) ∙ places_in (flow_of lines no_parts) lines)

@@ -7,4 +7,9 @@ mod Tables
 mod Renewed
 mod Edges
 mod Replacing
+mod Lists
+mod Places
+mod Follows
+mod Regions
+mod Swept
 pub mod Samples

@@ -16,6 +16,7 @@ use Rattle.c65_code.specs.Moves.{labelled}
 use Rattle.c65_live.specs.Live.{Next, onward, goes, left_parts, IsLive, left, read, kept}
 use Rattle.c65_live.specs.Renewals.{goes_nowhere, is_plain, are_plain, before_line, before_all, afters, IsSettledBefore}
 use Rattle.c65_live.proofs.Sets.{in_none, in_union, in_minus, union_left, union_right, minus_in, yes_or_no}
+use Rattle.c65_live.proofs.Lists.{nth_left, nth_right, nth_drop}
 
 -- plain lines
 both : (a b : Bool) → a && b ≡ true → (a ≡ true) × (b ≡ true)
@@ -43,16 +44,6 @@ plain_leaves_nothing : (out : RegSet) (line : Line) → is_closing line ≡ fals
 plain_leaves_nothing out (Do ops.Rts mode operand) e = absurd (let f : true ≡ false = e in cc)
 plain_leaves_nothing out (Do ops.Jmp mode operand) e = absurd (let f : true ≡ false = e in cc)
 plain_leaves_nothing out line e = refl
-
--- an element of lists that stand one behind the other
-nth_left : {A : Type 0} (xs ys : List A) (q : ℕ) → q < length xs → slice_get (xs ++ ys) q ≡ slice_get xs q
-nth_left [] ys q h = absurd (omega (arith, h))
-nth_left (x ∷ xs) ys zero h = refl
-nth_left (x ∷ xs) ys (suc q) h = nth_left xs ys q (omega (arith, h))
-
-nth_right : {A : Type 0} (xs ys : List A) (j : ℕ) → slice_get (xs ++ ys) (length xs + j) ≡ slice_get ys j
-nth_right [] ys j = let e : 0 + j ≡ j = omega arith in ap (slice_get ys) e
-nth_right (x ∷ xs) ys j = let e : suc (length xs) + j ≡ suc (length xs + j) = omega arith in ap (slice_get (x ∷ (xs ++ ys))) e ∙ nth_right xs ys j
 
 -- a label among lines one behind the other
 labelled_left : (xs ys : List Line) (l : ℕ) → labelled xs l < length xs → labelled (xs ++ ys) l ≡ labelled xs l
@@ -104,11 +95,6 @@ nth_some : (xs : List Line) (k : ℕ) → k < length xs → (line : Line) × (sl
 nth_some [] k h = absurd (omega (arith, h))
 nth_some (x ∷ xs) zero h = (x, refl)
 nth_some (x ∷ xs) (suc k) h = nth_some xs k (omega (arith, h))
-
-nth_drop : (n : ℕ) (xs : List Line) (k : ℕ) → slice_get (drop n xs) k ≡ slice_get xs (n + k)
-nth_drop zero xs k = let e : k ≡ 0 + k = omega arith in ap (slice_get xs) e
-nth_drop (suc n) [] k = refl
-nth_drop (suc n) (x ∷ xs) k = let e : suc (n + k) ≡ suc n + k = omega arith in nth_drop n xs k ∙ ap (slice_get (x ∷ xs)) e
 
 drop_all : (k : ℕ) (xs : List Line) → length xs ≤ k → drop k xs ≡ []
 drop_all zero [] h = refl

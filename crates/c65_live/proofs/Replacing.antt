@@ -14,10 +14,11 @@ use Rattle.c65_live.specs.Live.{onward, goes, IsLive, left, read, kept}
 use Rattle.c65_live.specs.Tables.{IsLiveTable}
 use Rattle.c65_live.specs.Renewals.{before_line, before_rest, afters, widened, IsSettledBefore, IsEdge, renewed, IsNear}
 use Rattle.c65_live.proofs.Sets.{in_none, in_union, in_minus, union_left, union_right, minus_in}
+use Rattle.c65_live.proofs.Lists.{nth_drop}
 use Rattle.c65_live.proofs.Renewed.{IsBefore, whole, table, is_exact, is_long}
 
 -- in the table exactly what is live, also past its end, where nothing is
-exact_everywhere : (lines : List Line) (out : RegSet) (live : List RegSet) → IsLiveTable lines out (record { after = live }) → (q : ℕ) (p : Part) → IsTrue (has_part (get_or live q no_parts) p) ↔ IsLive lines out q p
+pub exact_everywhere : (lines : List Line) (out : RegSet) (live : List RegSet) → IsLiveTable lines out (record { after = live }) → (q : ℕ) (p : Part) → IsTrue (has_part (get_or live q no_parts) p) ↔ IsLive lines out q p
 exact_everywhere lines out live t q p = elim (cases_lt q (length lines)) as (λ _. IsTrue (has_part (get_or live q no_parts) p) ↔ IsLive lines out q p) [
   | inl less ↦ t.each q less p
   | inr past ↦ (
@@ -75,11 +76,6 @@ whole_again : (lines : List Line) (at count : ℕ) → take at lines ++ (take co
 whole_again lines at count =
     ap (λ x. take at lines ++ (take count (drop at lines) ++ x)) (sym (drop-drop count at lines))
     ∙ (ap (λ x. take at lines ++ x) (take-append-drop count (drop at lines)) ∙ take-append-drop at lines)
-
-nth_drop : {A : Type 0} → (n : ℕ) (xs : List A) (k : ℕ) → slice_get (drop n xs) k ≡ slice_get xs (n + k)
-nth_drop zero xs k = let e : k ≡ 0 + k = omega arith in ap (slice_get xs) e
-nth_drop (suc n) [] k = refl
-nth_drop (suc n) (x ∷ xs) k = let e : suc (n + k) ≡ suc n + k = omega arith in nth_drop n xs k ∙ ap (slice_get (x ∷ xs)) e
 
 get_dropped : (n : ℕ) (sets : List RegSet) → get_or (drop n sets) 0 no_parts ≡ get_or sets n no_parts
 get_dropped zero sets = refl

@@ -11,7 +11,7 @@ use indexmap::IndexMap;
 use std::alloc::{AllocError, Global};
 
 // Labels, each with its line.
-type Labels = IndexMap<u32, usize>;
+pub(crate) type Labels = IndexMap<u32, usize>;
 
 /// What a line does to the parts, and which lines may come behind it.
 #[derive(Clone, Copy)]
@@ -41,7 +41,7 @@ fn kept() -> RegSet
     RegSet::zero_bytes(0, 2).union(RegSet::zero_bytes(20, 26))
 }
 
-fn left(out: RegSet, line: &Line) -> RegSet
+pub(crate) fn left(out: RegSet, line: &Line) -> RegSet
     ensures { result ≡ left_parts out line.now }
 {
     match line {
@@ -66,7 +66,7 @@ fn mark(labels: &mut Labels, line: &Line, at: usize) -> Result<(), AllocError>
     Ok(())
 }
 
-fn marked(alloc: Global, lines: &[Line]) -> Result<Labels, AllocError>
+pub(crate) fn marked(alloc: Global, lines: &[Line]) -> Result<Labels, AllocError>
     ensures { IfOk result (λ labels. labels.entries ≡ labels_from [] 0 lines.now) }
 {
     let mut labels = IndexMap::new(alloc);
@@ -76,7 +76,7 @@ fn marked(alloc: Global, lines: &[Line]) -> Result<Labels, AllocError>
     Ok(labels)
 }
 
-fn place(labels: &Labels, line: &Line) -> Option<usize>
+pub(crate) fn place(labels: &Labels, line: &Line) -> Option<usize>
     ensures { result ≡ found labels.now.entries (target_of line.now) }
 {
     match line {

@@ -2,8 +2,10 @@
 //! before they are set.
 #![tactic(auto)]
 
+mod border;
 mod flow;
 mod laws;
+mod region;
 mod renew;
 mod sweep;
 mod table;

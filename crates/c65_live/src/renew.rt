@@ -29,8 +29,8 @@ fn are_plain(lines: &[Line]) -> bool
     true
 }
 
-// What is live before a line, by what is live after it.
-fn before(out: RegSet, line: &Line, after: RegSet) -> RegSet
+/// What is live before a line, by what is live after it.
+pub(crate) fn before(out: RegSet, line: &Line, after: RegSet) -> RegSet
     ensures { result ≡ before_line out line.now after }
 {
     line.reads(out).union(after.minus(line.sets()))

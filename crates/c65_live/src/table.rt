@@ -7,6 +7,7 @@ ghost use Rattle.c65_live.specs.Renewals.{IsNear};
 ghost use Rattle.c65_live.specs.Sweeps.{IsSettled};
 
 use crate::flow::{Flow, flows};
+use crate::region::renewed;
 use crate::renew::{afters, before_rest, edge};
 use crate::sweep::sweep;
 use c65_base::Refusal;
@@ -66,7 +67,7 @@ impl LiveTable {
     }
 
     /// The table of the segment's lines with others in place of some, where this is the table of its lines. It is made anew only near
-    /// them, where all ways through their place go straight. After a refusal the table is as before.
+    /// them. After a refusal the table is as before.
     pub fn replace(
         &mut self,
         seg: &Seg,
@@ -83,11 +84,14 @@ impl LiveTable {
     {
         if lines.len() <= count {
             let near = near(self.alloc, seg, &self.live, at, count, lines)?;
-            if let Some(near) = near {
-                let wide = at + count - near.first;
-                overwrite(&mut self.live, near.first, wide, &near.sets);
+            let Some(near) = near else {
+                let swept = swept(self.alloc, seg, &self.live, at, count, lines)?;
+                self.live = swept;
                 return Ok(());
-            }
+            };
+            let wide = at + count - near.first;
+            overwrite(&mut self.live, near.first, wide, &near.sets);
+            return Ok(());
         }
         let live = replaced(self.alloc, seg, &self.live, at, count, lines)?;
         self.live = live;
@@ -125,8 +129,8 @@ fn near(
     Ok(Some(Renewal { first, sets }))
 }
 
-// Sets in place of no fewer others.
-fn overwrite(live: &mut Vec<RegSet>, at: usize, count: usize, new: &[RegSet])
+/// Sets in place of no fewer others.
+pub(crate) fn overwrite(live: &mut Vec<RegSet>, at: usize, count: usize, new: &[RegSet])
     requires place { at + count ≤ length live.old.items }
     requires fewer { length new.now ≤ count }
     ensures { live.new.items ≡ take at live.old.items ++ (new.now ++ drop (at + count) live.old.items) }
@@ -154,12 +158,27 @@ fn replaced(
     let near = near(alloc, seg, live, at, count, new)?;
     match near {
         Some(near) => joined(alloc, &live[..near.first], &near.sets, &live[rest..]),
-        None => {
-            let lines = seg.lines();
-            let all = joined(alloc, &lines[..at], new, &lines[rest..])?;
-            made(alloc, seg.out(), &all)
-        }
+        None => swept(alloc, seg, live, at, count, new),
     }
+}
+
+// The same, by sweeps over a region of them.
+fn swept(
+    alloc: Global,
+    seg: &Seg,
+    live: &[RegSet],
+    at: usize,
+    count: usize,
+    new: &[Line],
+) -> Result<Vec<RegSet>, AllocError>
+    requires place { at + count ≤ length seg.now.lines }
+    requires kept { IsSegment (replaced seg.now.lines at count new.now) }
+    requires table { IsLiveTable seg.now.lines seg.now.out (record { after = live.now }) }
+    ensures { IfOk result (λ sets. IsLiveTable (replaced seg.now.lines at count new.now) seg.now.out (record { after = sets.items })) }
+{
+    let (lines, rest) = (seg.lines(), at + count);
+    let all = joined(alloc, &lines[..at], new, &lines[rest..])?;
+    renewed(alloc, seg, &all, live, at, count, new)
 }
 
 fn joined<T: Copy>(
