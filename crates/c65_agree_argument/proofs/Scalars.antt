@@ -1,5 +1,5 @@
 -- The bytes of a number or a pointer in the primary register.
-use Rattle.std.proofs.Common.{◌≡◌, ◌≤◌, refl, sym, subst, arith}
+use Rattle.std.proofs.Common.{◌≡◌, ◌≤◌, ◌⊎◌, inl, inr, refl, sym, subst, arith}
 use Rattle.std.specs.Prelude.{bit_and}
 use Rattle.std.proofs.lemmas.Nat.{and_le_r}
 use Rattle.c65_ints.specs.declared.types.IntType.{IntType}
@@ -8,7 +8,7 @@ use Rattle.c65_ctype.specs.Sizes.{bytes_of}
 use Rattle.c65_ctype.specs.Trees.{Ty, void, int, pointer, array, tag, function, TypesTy, type_in}
 use Rattle.c65_csem.specs.Trees.{Typed, node, pack}
 use Rattle.c65_meaning.specs.Shapes.{bare_type, shape_of}
-use Rattle.c65_meaning.specs.Store.{Value, Whole, Null, Place, Opaque, Cells, NoValue, Shape, Number, Field, Pointer, Area, size_in}
+use Rattle.c65_meaning.specs.Store.{Value, NoValue, Shape, Number, Field, Pointer, Area, size_in}
 use Rattle.c65_meaning.specs.Fits.{Fits}
 use Rattle.c65_meaning.specs.Items.{plan}
 use Rattle.c65_code.specs.LineState.{State, IsBytes, eax_of}
@@ -25,6 +25,7 @@ use Rattle.c65_agree_state.specs.World.{unit_in}
 use Rattle.c65_agree_state.specs.Exprs.{Yield, Valued, MayFit, ResultIs, Does, shape_in, width_in}
 use Rattle.c65_agree_put.specs.Laws.{IsScalar}
 use Rattle.c65_agree_put.proofs.Values.{values_are_laid}
+use Rattle.c65_agree_put.proofs.Fits.{fits_or_none}
 use Rattle.c65_agree_enter.specs.Params.{no_cells}
 use Rattle.c65_agree_argument.specs.Arguments.{AreHeld}
 use Rattle.c65_agree_argument.specs.Laws.{IsPacked, ScalarsArePassed}
@@ -37,12 +38,11 @@ held_by w (Area size) v t s b fits is i lt = absurd s
 
 -- a value that is missing has no bytes
 pub scalars_are_held : (w : Placing) (f : Shape) (v : Value) (t : State) → IsScalar f → IsBytes t → MayFit Valued f v → ResultIs Valued w (width_in f) v t → AreHeld w t (size_in f) v
-scalars_are_held w f NoValue t s b fits is = λ i lt. let h : bit_and (byte_of i (eax_of t)) 0 ≤ 0 = and_le_r (byte_of i (eax_of t)) 0 in omega arith
-scalars_are_held w f (Whole z) t s b fits is = held_by w f (Whole z) t s b fits is
-scalars_are_held w f Null t s b fits is = held_by w f Null t s b fits is
-scalars_are_held w f (Place c o) t s b fits is = held_by w f (Place c o) t s b fits is
-scalars_are_held w f Opaque t s b fits is = held_by w f Opaque t s b fits is
-scalars_are_held w f (Cells xs) t s b fits is = held_by w f (Cells xs) t s b fits is
+scalars_are_held w f v t s b fits is = go (fits_or_none f v s fits)
+  where
+    go : Fits f v ⊎ (v ≡ NoValue) → AreHeld w t (size_in f) v
+    go (inl h) = held_by w f v t s b h is
+    go (inr e) = subst (AreHeld w t (size_in f)) (sym e) (λ i lt. let h : bit_and (byte_of i (eax_of t)) 0 ≤ 0 = and_le_r (byte_of i (eax_of t)) 0 in omega arith)
 
 -- ---- the bytes in which it is passed
 

@@ -114,7 +114,6 @@ module _ (g : World) (outer a : Active) (frame : Frame) (passed needs : ℕ) (fu
       few = soft_few;
       few_calls = hard_few;
     };
-    plain = s.plain;
     none_raised = s.none_raised;
   }
 
@@ -131,7 +130,7 @@ module _ (g : World) (outer a : Active) (frame : Frame) (reads : RegSet) (passed
   goes_in callee j c1 lt h u later at in_registers come =
       let may = may_call g outer a frame passed needs func body types c w k t m.stands callee args c1 h m.call in
       let begun = all_begun g outer a frame passed needs func body types c w k t m.stands callee args c1 h in
-      functions_are_followed g outer a frame passed (cost_of (unit_in g) types body) needs j weight e body result args vs below m.call.0 m.call.1 (turned c) c1 w k t u later placed m.low may m.call.2 at (m.passes u at in_registers) begun m.ends come (m.does j lt) (m.goes j lt)
+      functions_are_followed g outer a frame passed (cost_of (unit_in g) types body) needs j weight e body result args vs below m.call.0 m.call.1 (turned c) c1 w k t u later placed m.low may m.stands.plain m.call.2 at (m.passes u at in_registers) begun m.ends come (m.does j lt) (m.goes j lt)
 
   -- the step of a call, where the line leads in
   step_follows : (callee : Ty) (v : ℕ) → whole_cost a + weight ≤ v + 4000 → ((j : ℕ) (c1 : Scene) → GoesIn g a reads j inner (suc c.turns) (work c1) t → Follows g j (8 + inner) (work c1) (place_in g outer p) t seen)

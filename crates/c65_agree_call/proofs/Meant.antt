@@ -89,7 +89,7 @@ deep_stays g zero = refl
 deep_stays g (suc n) = deep_stays g n
 
 deep_follows : (g : World) (n v : ℕ) (q : Spot) (t : State) (seen : Seen) → Follows g n v Deep q t seen
-deep_follows g n v q t seen d = absurd (subst (λ m. IsDefined (outcome_of m)) (deep_stays g n) d)
+deep_follows g n v q t seen d = absurd (subst (λ m. IsDefined (outcome_of m)) (deep_stays g n) d.1)
 
 -- ---- the step
 

@@ -41,16 +41,16 @@ module _ (g : World) (outer a : Active) (frame : Frame) (passed cost needs : ℕ
       let before : sum_by (λ (f : Frame). 2 + length f.pushed) t0.frames ≡ sum_by (λ (f : Frame). 2 + length f.pushed) outer.behind = ap (sum_by (λ (f : Frame). 2 + length f.pushed)) m.joins.frames in
       omega (arith, mine, none, its, all, before)
 
-  hard_left : 255 ≤ s_of t + (2 + hard_sum c0.frames)
+  pub hard_left : 255 ≤ s_of t + (2 + hard_sum c0.frames)
   hard_left =
       let none : length t0.pushed ≡ 0 = ap length m.none_pushed in
       omega (arith, hard_is, none, m.joins.hard, m.called.few_calls)
 
   -- the software stack has room for a routine below the frame
-  base_high : stack_start + 64 ≤ a.base
+  pub base_high : stack_start + 64 ≤ a.base
   base_high = omega (arith, m.called.room, m.called.few)
 
-  entry_on : a.base + (a.frame.soft + (saved_bytes a.frame.bank + length (arriving a.frame.last t))) ≡ sp_of t → IsOn g t
+  pub entry_on : a.base + (a.frame.soft + (saved_bytes a.frame.bank + length (arriving a.frame.last t))) ≡ sp_of t → IsOn g t
   entry_on stacked =
       let soft : stack_start + 64 ≤ sp_of t = omega (arith, stacked, base_high) in
       record {
@@ -68,19 +68,19 @@ module _ (g : World) (outer a : Active) (frame : Frame) (passed cost needs : ℕ
         running = at.ended ∙ m.joins.ended;
       }
 
-  may_enter : MayEnter g (length a.behind) outer.base c0 w0 k0 t0
+  pub may_enter : MayEnter g (length a.behind) outer.base c0 w0 k0 t0
   may_enter =
       let deeper : length a.behind ≡ suc (length outer.behind) = ap length m.behind in
       subst (λ d. MayEnter g d outer.base c0 w0 k0 t0) (sym deeper) (callers_may_enter g outer c0 w0 k0 t0 m.joins)
 
 -- the end of the function stands behind its label
-end_place : (g : World) (a : Active) (e : ℕ) → IsPlaced (lines_of g a) → slice_get (lines_of g a) e ≡ Some (Label 0) → place_in g a (labelled (lines_of g a) 0) ≡ place_in g a (suc e)
+pub end_place : (g : World) (a : Active) (e : ℕ) → IsPlaced (lines_of g a) → slice_get (lines_of g a) e ≡ Some (Label 0) → place_in g a (labelled (lines_of g a) 0) ≡ place_in g a (suc e)
 end_place g a e single is = ap (place_in g a) (single e 0 is) ∙ labels_are_passed (setting_in g) a.symbol e 0 is
 
 pub functions_are_followed : FunctionsAreFollowed
-functions_are_followed g outer a frame passed cost needs n weight e body result args vs below call calls c0 c1 w0 k0 t0 t seen placed low m some at passing begun ends turned does goes =
+functions_are_followed g outer a frame passed cost needs n weight e body result args vs below call calls c0 c1 w0 k0 t0 t seen placed low m plain some at passing begun ends turned does goes =
     entries_enter g a outer.base cost needs (params_in g a) args c0 c1 w0 k0 t0 t placed low (may_enter g outer a frame passed cost needs c0 w0 k0 t0 t m at) at m.called
-    (entry_on g outer a frame passed cost needs c0 w0 k0 t0 t m at passing.stacked) m.plain (base_high g outer a frame passed cost needs c0 w0 k0 t0 t m at) passing.stacked passing.few passing.lies
+    (entry_on g outer a frame passed cost needs c0 w0 k0 t0 t m at passing.stacked) plain (base_high g outer a frame passed cost needs c0 w0 k0 t0 t m at) passing.stacked passing.few passing.lies
     (hard_left g outer a frame passed cost needs c0 w0 k0 t0 t m at) begun n (end_cost a.frame + weight) 0 c1.turns (Running (plan_stmt (unit_in g) 0 body (Leave ∷ below)) vs c1) seen ends.entry
     (subst (λ x. HasTurns g x (place_in g a 0) seen) (sym same) turned) (λ t1 later h first.
     subst (λ z. Follows g n (end_cost a.frame + weight) (Running (plan_stmt (unit_in g) 0 body (Leave ∷ below)) vs c1) (place_in g a z) t1 later) (sym first_statement)
@@ -100,5 +100,5 @@ functions_are_followed g outer a frame passed cost needs n weight e body result 
         let entered = entries_keep g a outer frame passed needs (params_in g a) c0 c1 w0 k0 t0 t t1 m.joins m.called.calls m.behind m.pushed m.top m.called.first at taken h in
         subst (λ x. Follows g j (end_cost a.frame + weight) (left_call (unit_in g) v below vs c) x t2 seen2) (sym place)
         (returns_are_followed g a outer frame passed needs c0 c1 c w0 h.placing q k0 (banks_with a t1 k0) b t0 t1 t2 call calls j weight (suc e) below vs v seen2 placed m.joins m.within some entered keeping between
-        (λ x. m.none_raised) (λ x. absurd (let clash : false ≡ true = sym m.plain.plain ∙ x in cc)) ends.end.1 (subst (λ x. HasTurns g c.turns x seen2) place come) (λ u later back given there.
+        (λ x. m.none_raised) (λ x. absurd (let clash : false ≡ true = sym m.called.plain ∙ x in cc)) ends.end.1 (subst (λ x. HasTurns g c.turns x seen2) place come) (λ u later back given there.
         goes j v (scene_behind g c) q b u later lt (record { behind = back; fits = fits; last = t2; value = value; given = given }) there))

@@ -88,7 +88,6 @@ pub record MayCall (g : World) (outer a : Active) (frame : Frame) (passed cost n
   pub pushed : frame.pushed ≡ t.pushed
   pub top : a.base + call_bytes a ≡ sp_of t + passed
   pub called : IsCalled g a outer.base cost needs (params_in g a) c
-  pub plain : IsPlainFrame a.frame
   pub none_raised : a.raised ≡ 0
 
 -- What stands of a call of a function that takes no further arguments, whether or not its step is defined: it may still be too deep, or

@@ -28,7 +28,7 @@ use Rattle.c65_agree_state.specs.Exprs.{Ready, Valued, ResultIs}
 use Rattle.c65_agree_state.specs.Stmts.{HasCall}
 use Rattle.c65_agree_frame.specs.Leads.{Leads, IsOn}
 use Rattle.c65_agree_frame.specs.Ends.{end_cost}
-use Rattle.c65_agree_frame.specs.Entries.{entry_cost}
+use Rattle.c65_agree_frame.specs.Entries.{IsPlainFrame, entry_cost}
 use Rattle.c65_agree_leave.specs.Laws.{params_in}
 use Rattle.c65_agree_enter.specs.Entries.{FixedAreLow}
 use Rattle.c65_agree_enter.specs.Laws.{IsAtEntry}
@@ -66,12 +66,12 @@ CallsAreMeant = (g : World) (callee : Ty) (types : List Ty) (args vs values : Li
 
 -- ---- the function
 
--- From the first line of a function that takes no further arguments to the line behind the call: where its body does its work and the rest
--- is followed behind the call, the whole is.
+-- From the first line of a function that takes no further arguments, with no parameter in regbank, to the line behind the call: where its
+-- body does its work and the rest is followed behind the call, the whole is.
 abbrev pub FunctionsAreFollowed : Type 0
 FunctionsAreFollowed = (g : World) (outer a : Active) (frame : Frame) (passed cost needs n weight e : ℕ) (body : Stmt) (result : Shape) (args vs : List Value) (below : List Item)
     (call : Call) (calls : List Call) (c0 c1 : Scene) (w0 : Placing) (k0 : Banks) (t0 t : State) (seen : Seen)
-    → IsPlacement g.code g.place → FixedAreLow g → MayCall g outer a frame passed cost needs c0 w0 k0 t0 → c0.frames ≡ call ∷ calls
+    → IsPlacement g.code g.place → FixedAreLow g → MayCall g outer a frame passed cost needs c0 w0 k0 t0 → IsPlainFrame a.frame → c0.frames ≡ call ∷ calls
     → IsAtEntry a t0 t → HasPassed g a args w0 k0 t → with_params (unit_in g) (params_in g a) args (new_frame (unit_in g) a.func cost c0) ≡ Ok c1
     → HasEnds g a e → HasTurns g c0.turns (place_in g a 0) seen
     → BodyDoes g a needs body result below vs n (end_cost a.frame + weight) → GoesOnBehind g outer a frame passed result below vs n weight c0 w0 k0 t0

@@ -1,16 +1,14 @@
 -- `?:` and `,`: one part behind another.
 use Rattle.std.proofs.Common.{◌≡◌, ℕ, suc, ◌+◌, ◌<◌, ◌≤◌, max, List, [], ◌∷◌, ◌++◌, Bool, true, false, length, refl, sym, ap, ◌∙◌, subst, arith, length-append}
-use Rattle.std.specs.Prelude.{if◌then◌else◌, Result, Ok, Err}
+use Rattle.std.specs.Prelude.{Result, Ok, Err}
 use Rattle.std.specs.Bool.{beq}
 use Rattle.c65_csem.specs.Trees.{Typed}
 use Rattle.c65_mach.specs.declared.rows.Op.TheVariants.{Jmp}
 use Rattle.c65_mach.specs.declared.rows.Mode.TheVariants.{Absolute}
 use Rattle.c65_meaning.specs.Why.{Why}
-use Rattle.c65_meaning.specs.Store as values
-use Rattle.c65_meaning.specs.Store.{Value, Whole, Null, Opaque, Cells, NoValue, Shape, Area}
+use Rattle.c65_meaning.specs.Store.{Value, Shape, Area}
 use Rattle.c65_meaning.specs.Items.{Item, Choose, Drop, plan}
 use Rattle.c65_meaning.specs.Operators.{truth_of}
-use Rattle.c65_meaning.specs.State as meaning
 use Rattle.c65_meaning.specs.State.{Scene, Running}
 use Rattle.c65_meaning.specs.Step.{decided}
 use Rattle.c65_code.specs.declared.line.Operand.TheVariants.{To}
@@ -23,7 +21,7 @@ use Rattle.c65_agree_store.specs.Stands.{Placing, Banks}
 use Rattle.c65_agree_step.proofs.Ways.{labels_are_passed}
 use Rattle.c65_agree_state.specs.World.{World, unit_in, setting_in, Active, lines_of, place_in, IsPlaced, HasAt, HasTurns, HasBranched}
 use Rattle.c65_agree_state.specs.Follows.{Follows}
-use Rattle.c65_agree_state.specs.Exprs.{Ready, Yield, Valued, Placed, Kept, Done, Tells}
+use Rattle.c65_agree_state.specs.Exprs.{Ready, Yield, Placed, Kept, Done, Tells}
 use Rattle.c65_agree_state.proofs.Followed.{follows_weaken, steps_earn, arrivals_count, ready_is_calm}
 use Rattle.c65_agree_state.proofs.Nodes.{has_front, has_back, ready_stays}
 use Rattle.c65_agree_state.proofs.Parts.{kept_goes_on}
@@ -31,7 +29,7 @@ use Rattle.c65_agree_state.proofs.Tests.{jump}
 use Rattle.c65_agree_rows.proofs.Quiet.{nothing_follows}
 use Rattle.c65_agree_operate.specs.Manners.{Manner, IsLeft, RestIn, DoesIn}
 use Rattle.c65_agree_operate.proofs.Manners.{left_then}
-use Rattle.c65_agree_compare.specs.Branches.{end_of, RestOfBranch}
+use Rattle.c65_agree_compare.specs.Branches.{end_of}
 use Rattle.c65_agree_compare.specs.Laws.{chosen, ChoicesDo, AreasDo, CommasDoIn, CommasBranch}
 use Rattle.c65_agree_compare.proofs.Branches.{branched_turns}
 
@@ -138,13 +136,8 @@ choices_do g a m yield f h fresh needs left_needs right_needs pushed first x y t
 
 -- ---- places of structures and unions
 
-as_area : (g : World) (a : Active) (f : Shape) (size : ℕ) (c : Scene) (w : Placing) (k : Banks) (t : State) (v : Value) (c2 : Scene) (w2 : Placing) (k2 : Banks) (u : State) → Done g a Placed f c w k t v c2 w2 k2 u → Done g a Valued (Area size) c w k t v c2 w2 k2 u
-as_area g a f size c w k t (values.Place b o) c2 w2 k2 u d = record { kept = d.kept; result = d.result; fits = tt }
-as_area g a f size c w k t (Whole z) c2 w2 k2 u d = absurd d.fits
-as_area g a f size c w k t Null c2 w2 k2 u d = absurd d.fits
-as_area g a f size c w k t Opaque c2 w2 k2 u d = absurd d.fits
-as_area g a f size c w k t (Cells xs) c2 w2 k2 u d = absurd d.fits
-as_area g a f size c w k t NoValue c2 w2 k2 u d = absurd d.fits
+as_area : (g : World) (a : Active) (f : Shape) (size : ℕ) (c : Scene) (w : Placing) (k : Banks) (t : State) (v : Value) (c2 : Scene) (w2 : Placing) (k2 : Banks) (u : State) → Done g a Placed f c w k t v c2 w2 k2 u → Done g a Placed (Area size) c w k t v c2 w2 k2 u
+as_area g a f size c w k t v c2 w2 k2 u d = record { kept = d.kept; result = d.result; fits = d.fits }
 
 pub areas_do : AreasDo
 areas_do g a m f size needs pushed work lines does n weight p k vs c w b t seen has r turns rest =

@@ -1,6 +1,6 @@
 -- Comparisons with a right side that is read where it lies.
 use Rattle.std.proofs.Common.{◌≡◌, ℕ, ◌+◌, ◌*◌, ◌/◌, ◌%◌, ◌<◌, ◌≤◌, max, List, ◌∷◌, ◌++◌, length, ℤ, Bool, true, false, Option, Some, None, refl, sym, ap, ◌∙◌, subst, arith, length-append}
-use Rattle.std.specs.Prelude.{◌==◌, not, nat_lt, nat_le, if◌then◌else◌, Ok}
+use Rattle.std.specs.Prelude.{◌==◌, not, nat_lt, nat_le, Ok}
 use Rattle.std.specs.Bool.{beq}
 use Rattle.std.proofs.lemmas.Bool.Decides.{nat_tests}
 use Rattle.c65_base.specs.declared.operators.BinaryOp.{BinaryOp}
@@ -27,7 +27,6 @@ use Rattle.c65_gendirect.specs.declared.bytes.OperandByte.{OperandByte}
 use Rattle.c65_gendirect.specs.declared.direct.Direct.{Direct}
 use Rattle.c65_gendirect.specs.declared.relation.Relation.{Relation}
 use Rattle.c65_gendirect.specs.declared.relation.Relation.TheVariants.{Less, NotLess, Greater, NotGreater, Equal, Unequal}
-use Rattle.c65_gendirect.specs.declared.compare.Sides.{Sides}
 use Rattle.c65_gendirect.specs.declared.compare.Sides.TheVariants.{Word}
 use Rattle.c65_gendirect.specs.Bytes.{byte_of as operand_of}
 use Rattle.c65_gendirect.specs.Compare.{relation_of, negated, difference_code, order_code, compare_code}
@@ -42,7 +41,7 @@ use Rattle.c65_agree_state.specs.Exprs.{Ready, Valued, ResultIs, Done}
 use Rattle.c65_agree_state.proofs.Followed.{follows_weaken}
 use Rattle.c65_agree_state.proofs.Nodes.{has_front, has_back, ready_stays}
 use Rattle.c65_agree_load.proofs.Kept.{is_on}
-use Rattle.c65_agree_load.proofs.Objects.{may_fit}
+use Rattle.c65_agree_put.proofs.Fits.{may_fit}
 use Rattle.c65_agree_direct.specs.Operands.{byte_in, MayRead, register_bytes, HasBytes}
 use Rattle.c65_agree_direct.specs.Laws.{IsReadInPlace}
 use Rattle.c65_agree_operate.specs.Manners.{Manner, IsLeft, DoesIn}
@@ -67,7 +66,7 @@ module _ (g : World) (a : Active) (m : Manner) (op : BinaryOp) (t : IntType) (s 
 
     followed : (i : ℕ) → i ≤ n → Follows g i (weight + 2600 + m.over + 4000) (Running (Apply2 op (Number t) (Number t) ∷ k) (vb ∷ va ∷ vs) c1) (place_in g a (p + length left)) s1 seen
     followed i le =
-        settled_follows g a m op t s to placed compares pushed more_needs n weight (p + length (left ++ ls)) (p + length left) ls ends k vs c w b r rest has c1 w1 b1 s1 ready1 done1.kept left1 va vb done1.fits (may_fit (Number t) vb fit)
+        settled_follows g a m op t s to placed compares pushed more_needs n weight (p + length (left ++ ls)) (p + length left) ls ends k vs c w b r rest has c1 w1 b1 s1 ready1 done1.kept left1 va vb done1.fits (may_fit (Number t) vb tt fit)
         (λ x z y e f fits1 fits2 gives. leads c1 w1 b1 s1 x z y ready1 (subst (λ v. ResultIs Valued w1 (width_of t) v s1) e done1.result) (subst (HasBytes g c1.store w1 s1 (width_of t) d) f bytes) fits1 fits2 gives)
         seen turned (weight + 2600 + m.over + 4000) (omega arith) i le
 

@@ -107,10 +107,10 @@ ChoicesDo = (g : World) (a : Active) (m : Manner) (yield : Yield) (f h : Shape) 
     → DoesIn g a m yield h (plan (unit_in g) y) right_needs pushed right
     → DoesIn g a m yield h (λ k. first (Choose x y ∷ k)) (max needs (max left_needs right_needs)) pushed (chosen fresh test left right)
 
--- an arm that is a place of a structure or union gives its address as the value
+-- an arm that is a place of a structure or union gives its address
 abbrev pub AreasDo : Type 0
 AreasDo = (g : World) (a : Active) (m : Manner) (f : Shape) (size needs pushed : ℕ) (work : List Item → List Item) (lines : List Line)
-    → DoesIn g a m Placed f work needs pushed lines → DoesIn g a m Valued (Area size) work needs pushed lines
+    → DoesIn g a m Placed f work needs pushed lines → DoesIn g a m Placed (Area size) work needs pushed lines
 
 -- ---- `,`
 

@@ -23,7 +23,7 @@ use Rattle.c65_agree_direct.specs.Laws.{KnownPlacesAreLoaded}
 use Rattle.c65_agree_direct.proofs.Spots.{IsKnown, IsTold}
 use Rattle.c65_agree_direct.proofs.Places.{PlaceIsRead, places_are_read}
 use Rattle.c65_agree_direct.proofs.Trees.{load_kind}
-use Rattle.c65_agree_direct.proofs.Tests.{may_fit}
+use Rattle.c65_agree_put.proofs.Fits.{may_fit}
 
 near_told : (place : Place) → IsKnown place → IsTold place → IsNear place
 near_told (Bank at) known told = tt
@@ -38,7 +38,7 @@ loads_do g a pushed needs f work place placed scalar known kept_there whole n we
     whole needs n weight (Fetch f ∷ k) vs c w b (place_in g a p) t seen r turns (λ j m o lt lies.
     fetches_are_followed g a pushed needs place f c w b t m o j (weight + 4000) p k vs seen placed has r scalar (near_told place known lies.told) kept_there lies.meant turns (λ h v u after less kept result fits e later.
     follows_weaken g h (weight + 2600) (weight + 4000 + 3470) (Running k (v ∷ vs) c) (place_in g a (p + length (load_code place (Whole (kind_in f))))) u after (omega arith)
-    (rest h v c w b u after (omega (arith, lt, less)) (record { kept = kept; result = result; fits = may_fit f v fits }) later)))
+    (rest h v c w b u after (omega (arith, lt, less)) (record { kept = kept; result = result; fits = may_fit f v scalar fits }) later)))
 
 pub known_places_are_loaded : KnownPlacesAreLoaded
 known_places_are_loaded g a pushed needs t e place kind placed frame typed is kept_there =

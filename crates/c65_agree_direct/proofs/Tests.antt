@@ -43,10 +43,11 @@ use Rattle.c65_agree_step.specs.Ways.{place_at, IsAtLine}
 use Rattle.c65_agree_step.proofs.Ways.{weaken, branches_go}
 use Rattle.c65_agree_state.specs.World.{World, program_in, setting_in, Active, lines_of, place_in, HasAt, HasTurns}
 use Rattle.c65_agree_state.specs.Follows.{Agrees, Follows}
-use Rattle.c65_agree_state.specs.Exprs.{Ready, Kept as Keeps, Valued, MayFit, Tells as TruthTells, RestOfTest, width_in, shape_in}
+use Rattle.c65_agree_state.specs.Exprs.{Ready, Kept as Keeps, Tells as TruthTells, RestOfTest, width_in, shape_in}
 use Rattle.c65_agree_state.proofs.Followed.{follows_weaken, branches_count, ready_is_calm}
 use Rattle.c65_agree_state.proofs.Nodes.{has_front, has_back}
 use Rattle.c65_agree_put.specs.Laws.{IsScalar}
+use Rattle.c65_agree_put.proofs.Fits.{may_fit}
 use Rattle.c65_agree_assign.specs.Places.{kind_in}
 use Rattle.c65_agree_load.proofs.Kept.{kept_later, ready_later}
 use Rattle.c65_agree_direct.specs.Operands.{byte_in, MayRead}
@@ -228,14 +229,6 @@ is_branch : (s : Bool) (to : ℕ) → form_of (branch (behind_test s) to) ≡ Br
 is_branch true to = refl
 is_branch false to = refl
 
-pub may_fit : (f : Shape) (v : Value) → Fits f v → MayFit Valued f v
-may_fit f (Whole z) h = h
-may_fit f Null h = h
-may_fit f (values.Place b o) h = h
-may_fit f Opaque h = h
-may_fit f (Cells xs) h = h
-may_fit f NoValue h = tt
-
 module _ (g : World) (a : Active) (pushed needs to : ℕ) (s : Bool) (c : Scene) (w : Placing) (b : Banks) (t : State) (placed : IsPlacement g.code g.place) (r : Ready g a pushed needs c w b t) (place : Place) (shape : Shape) (v : Value)
     (scalar : IsScalar shape) (known : IsKnown place) (fit : Fits shape v) (kept : IsKept g a c w t (width_in shape) place (kind_in shape) v) (j weight p : ℕ) (k : List Item) (vs : List Value) (seen : Seen) (turns : HasTurns g c.turns (place_in g a p) seen) where
   abbrev kind : IntType
@@ -291,7 +284,7 @@ module _ (g : World) (a : Active) (pushed needs to : ℕ) (s : Bool) (c : Scene)
         let at : IsAtLine (setting_in g) a.symbol (p + length front) u (Branch (behind_test s) to) = record { line = branch (behind_test s) to; there = has.0; formed = is_branch s to; calm = (ready_is_calm g a pushed needs c w b u ready_there).calm; within = tt; running = ready_there.joins.ended } in
         branch_goes g j (weight + 2600) (Running k (v ∷ vs) c) a.symbol (p + length front) to u later (behind_test s) goes at refl
         (subst (λ q. Follows g j (weight + 2600) (Running k (v ∷ vs) c) (place_in g a (if goes then labelled (lines_of g a) to else q)) u (seen_at (place_in g a (if goes then labelled (lines_of g a) to else q)) later)) (sym ends)
-        (rest j v goes c w b u (seen_at (place_in g a (if goes then labelled (lines_of g a) to else p + length lines)) later) lt kept_there (may_fit shape v fit) told
+        (rest j v goes c w b u (seen_at (place_in g a (if goes then labelled (lines_of g a) to else p + length lines)) later) lt kept_there (may_fit shape v scalar fit) told
         (branches_count g goes c.turns (place_in g a (if goes then labelled (lines_of g a) to else p + length lines)) later (omega (arith, turned)))))
 
   tested : (n : ℕ) → j < n → HasAt (lines_of g a) p lines → RestOfTest g a shape s to n weight k vs (p + length lines) c w b t → Follows g j (weight + 4000) (Running k (v ∷ vs) c) (place_in g a p) t seen

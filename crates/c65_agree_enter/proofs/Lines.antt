@@ -39,7 +39,7 @@ type_size types (array q n) = refl
 type_size types (tag n) = refl
 type_size types (function f) = refl
 
-shape_size : (u : UnitTy) (i : ℕ) → size_in (shape_in u i) ≡ bytes_of u i
+pub shape_size : (u : UnitTy) (i : ℕ) → size_in (shape_in u i) ≡ bytes_of u i
 shape_size u i = go (object_in u i)
   where
     go : (o : Option ObjectTy) → size_in (object_shape u.types o) ≡ object_size u.types o
@@ -47,7 +47,7 @@ shape_size u i = go (object_in u i)
     go (Some x) = type_size u.types (type_in x.ty)
 
 -- the bytes of one list at an address
-same_at : (m m2 : Bytes) (vs : List ℕ) (at i : ℕ) → AreAt m at vs → AreAt m2 at vs → i < length vs → m (at + i) ≡ m2 (at + i)
+pub same_at : (m m2 : Bytes) (vs : List ℕ) (at i : ℕ) → AreAt m at vs → AreAt m2 at vs → i < length vs → m (at + i) ≡ m2 (at + i)
 same_at m m2 [] at i h h2 lt = absurd (omega (arith, lt))
 same_at m m2 (v ∷ vs) at zero h h2 lt = let here : at + 0 ≡ at = omega arith in ap m here ∙ (h.0 ∙ sym h2.0) ∙ sym (ap m2 here)
 same_at m m2 (v ∷ vs) at (suc i) h h2 lt = let next : at + suc i ≡ at + 1 + i = omega arith in ap m next ∙ same_at m m2 vs (at + 1) i h.1 h2.1 (omega (arith, lt)) ∙ sym (ap m2 next)
@@ -136,10 +136,10 @@ entries_enter g a bound cost needs is args c0 c1 w0 k0 t0 t placed low may at ca
 -- ---- the caller
 
 module _ (a : Active) (t1 : State) (k0 : Banks) where
-  own_byte : (i : ℕ) → banks_with a t1 k0 (length a.behind) i ≡ t1.zp (20 + i)
+  pub own_byte : (i : ℕ) → banks_with a t1 k0 (length a.behind) i ≡ t1.zp (20 + i)
   own_byte i = grind (arith, nat_tests)
 
-  other_byte : (d i : ℕ) → d ≢ length a.behind → banks_with a t1 k0 d i ≡ k0 d i
+  pub other_byte : (d i : ℕ) → d ≢ length a.behind → banks_with a t1 k0 d i ≡ k0 d i
   other_byte d i ne = grind (arith, nat_tests)
 
 pub entries_keep : EntriesKeep

@@ -37,17 +37,17 @@ use Rattle.c65_agree_frame.proofs.Banks.{saved_few, banks_are_saved}
 -- ---- bytes that are pushed
 
 -- sp is lower by these bytes, which stand there; registers may be others
-record IsPushed (bytes : List ℕ) (t u : State) : Type 0 where
-  sp : sp_of u + length bytes ≡ sp_of t
-  there : AreAt u.mem (sp_of u) bytes
-  bank : SameBank t u
-  mem : (n : ℕ) → (n < stack_start) ⊎ (sp_of t ≤ n) → u.mem n ≡ t.mem n
-  pushed : u.pushed ≡ t.pushed
-  frames : u.frames ≡ t.frames
-  input : u.input ≡ t.input
-  output : u.output ≡ t.output
-  ended : u.ended ≡ t.ended
-  bytes_are : IsBytes u
+pub record IsPushed (bytes : List ℕ) (t u : State) : Type 0 where
+  pub sp : sp_of u + length bytes ≡ sp_of t
+  pub there : AreAt u.mem (sp_of u) bytes
+  pub bank : SameBank t u
+  pub mem : (n : ℕ) → (n < stack_start) ⊎ (sp_of t ≤ n) → u.mem n ≡ t.mem n
+  pub pushed : u.pushed ≡ t.pushed
+  pub frames : u.frames ≡ t.frames
+  pub input : u.input ≡ t.input
+  pub output : u.output ≡ t.output
+  pub ended : u.ended ≡ t.ended
+  pub bytes_are : IsBytes u
 
 -- the row of a routine that pushes
 record IsPushRow (r : Routine) (bytes : List ℕ) (t : State) (row : Row) : Type 0 where
@@ -244,7 +244,7 @@ module _ (g : World) (a : Active) (placed : IsPlacement g.code g.place) where
   pass_leads false false true t on low = three_pushed t on low
   pass_leads false false false t on low = leads_as g a (call PushEax ∷ []) 33 40 t (IsPushed (t.regs.a ∷ t.regs.x ∷ t.zp 2 ∷ t.zp 3 ∷ []) t) (IsPushed (t.regs.a ∷ t.regs.x ∷ t.zp 2 ∷ t.zp 3 ∷ []) t) (omega arith) (λ u h. h) (push_leads PushEax (t.regs.a ∷ t.regs.x ∷ t.zp 2 ∷ t.zp 3 ∷ []) (push_row PushEax (t.regs.a ∷ t.regs.x ∷ t.zp 2 ∷ t.zp 3 ∷ []) t) t on low (record { is = refl; quiet = quiet_row _ refl refl refl refl refl; ready = refl; sp = refl; settled = refl; writes = refl; near = refl; far = refl; cost = refl }))
 
-  pushed_lead : (last : Arrival) (t : State) → IsOn g t → stack_start + 64 + length (arriving last t) ≤ sp_of t → Leads g a (pushed_code last) 40 t (IsPushed (arriving last t) t)
+  pub pushed_lead : (last : Arrival) (t : State) → IsOn g t → stack_start + 64 + length (arriving last t) ≤ sp_of t → Leads g a (pushed_code last) 40 t (IsPushed (arriving last t) t)
   pushed_lead (Pushed bytes) t on low = pass_leads (nat_lt bytes 2) (nat_lt bytes 3) (nat_lt bytes 4) t on low
   pushed_lead Passed t on low = leads_as g a [] 0 40 t (IsPushed [] t) (IsPushed [] t) (omega arith) (λ u h. h) (none_leads g a t (IsPushed [] t) (nothing_pushed t on))
   pushed_lead (Kept bank bytes) t on low = leads_as g a [] 0 40 t (IsPushed [] t) (IsPushed [] t) (omega arith) (λ u h. h) (none_leads g a t (IsPushed [] t) (nothing_pushed t on))

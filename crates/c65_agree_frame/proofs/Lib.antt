@@ -3,3 +3,4 @@ pub mod Stack
 pub mod Banks
 pub mod Ends
 pub mod Entries
+pub mod Further

@@ -2,3 +2,4 @@ pub mod Leads
 pub mod Laws
 pub mod Ends
 pub mod Entries
+pub mod Further

@@ -1,6 +1,7 @@
 // Laws of entries and ends, each the contract of a function that does nothing.
 ghost use Rattle.c65_agree_frame.specs.Ends.{EndsAreFollowed};
 ghost use Rattle.c65_agree_frame.specs.Entries.{EntriesLead};
+ghost use Rattle.c65_agree_frame.specs.Further.{EntriesCount};
 ghost use Rattle.c65_agree_frame.specs.Laws.{BanksAreBrought, BanksAreSaved, StacksAreLowered, StacksAreRaised};
 
 /// sp is raised.
@@ -31,4 +32,9 @@ pub fn ends_are_followed()
 /// The entry of a function leads to its first statement.
 pub fn entries_lead()
     ensures { EntriesLead }
+{}
+
+/// So does that of a function that takes further arguments, whose frame then holds the number of their bytes.
+pub fn entries_count()
+    ensures { EntriesCount }
 {}

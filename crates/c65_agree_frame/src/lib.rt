@@ -4,6 +4,6 @@
 mod laws;
 
 pub use laws::{
-    banks_are_brought, banks_are_saved, ends_are_followed, entries_lead, stacks_are_lowered,
-    stacks_are_raised,
+    banks_are_brought, banks_are_saved, ends_are_followed, entries_count, entries_lead,
+    stacks_are_lowered, stacks_are_raised,
 };

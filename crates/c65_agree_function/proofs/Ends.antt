@@ -30,6 +30,7 @@ use Rattle.c65_agree_state.specs.Stmts.{Between, Keeping, GoesOn}
 use Rattle.c65_agree_state.proofs.Followed.{follows_weaken, steps_earn, arrivals_count, ready_is_calm}
 use Rattle.c65_agree_state.proofs.Parts.{between_is_ready, between_stays, keeping_goes_on}
 use Rattle.c65_agree_state.proofs.Leaves.{scratch_is_kept, with_regs, run}
+use Rattle.c65_agree_state.proofs.Yields.{nothing_may_fit}
 use Rattle.c65_agree_stmts.specs.Calling.{Calling}
 use Rattle.c65_agree_function.specs.Functions.{MainGives}
 
@@ -114,7 +115,7 @@ module _ (x : Calling) (placed : IsPlacement x.world.code x.world.place) (single
       steps_earn g j v Leave x.below x.values c (at p) t seen calm between.joins.output between.joins.ended (omega (arith, turns)) (λ i less.
       follows_weaken g i v (v + 4000) _ _ t seen (omega arith)
       (subst (λ (w : Value). Follows g i v (left_call (unit_in g) w x.below x.values c) (at p) t seen) (sym (the_end c between.joins.active false main))
-      (ends_at p has.0 out i NoValue c q b t seen (omega (arith, lt, less)) between keeping tt tt turns)))
+      (ends_at p has.0 out i NoValue c q b t seen (omega (arith, lt, less)) between keeping tt (nothing_may_fit x.result) turns)))
     where
       calm : IsCalm (setting_in g) t
       calm = (ready_is_calm g a 0 x.needs c q b t (between_is_ready g a x.needs x.params c q b t between)).calm

@@ -1,3 +1,3 @@
 mod Ends
-mod Body
+pub mod Body
 mod Mains

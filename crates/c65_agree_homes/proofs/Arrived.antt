@@ -19,7 +19,7 @@ use Rattle.c65_agree_homes.proofs.Placed.{IsBanked, FirstHome}
 
 -- ---- lists of homes
 
-set_here : (hs : List (Option Home)) (k : ℕ) (o v : Option Home) → slice_get hs k ≡ Some o → slice_get (slice_set hs k v) k ≡ Some v
+pub set_here : (hs : List (Option Home)) (k : ℕ) (o v : Option Home) → slice_get hs k ≡ Some o → slice_get (slice_set hs k v) k ≡ Some v
 set_here [] k o v h = absurd cc
 set_here (g ∷ hs) zero o v h = refl
 set_here (g ∷ hs) (suc k) o v h = set_here hs k o v h
@@ -58,7 +58,7 @@ one_other from j bank left k (Some (Some (Soft o))) a h = set_other a.homes j k 
 one_other from j bank left k (Some None) a h = refl
 one_other from j bank left k None a h = refl
 
-one_left : (from k bank left : ℕ) (h : Option (Option Home)) (a : Arrivals) → (arrive from k bank h left a).left ≡ left
+pub one_left : (from k bank left : ℕ) (h : Option (Option Home)) (a : Arrivals) → (arrive from k bank h left a).left ≡ left
 one_left from k bank left (Some (Some (Bank b))) a = refl
 one_left from k bank left (Some (Some (Soft o))) a = refl
 one_left from k bank left (Some None) a = refl

@@ -73,7 +73,7 @@ kept_by parts prototype low hs ps b (Some i) e h =
     let found : (c : ℕ) × (home_at low hs i ≡ Some (Bank c)) = kept_home parts prototype i (home_at low hs i) h in
     record { last = i; byte = found.0; is_last = from_register b (slice_get ps (length ps - 1)) i e; home = found.1; named = refl }
 
-some_length : (ps : List ℕ) (k i : ℕ) → slice_get ps k ≡ Some i → k < length ps
+pub some_length : (ps : List ℕ) (k i : ℕ) → slice_get ps k ≡ Some i → k < length ps
 some_length [] k i h = absurd cc
 some_length (j ∷ ps) zero i h = omega arith
 some_length (j ∷ ps) (suc k) i h = omega (arith, some_length ps k i h)

@@ -109,7 +109,7 @@ module _ (g : World) (names : List (List ℕ)) (a : Active) (f : FuncTy) (h : Is
     reached o lt = placed.data_in d.index (symbol_at g i + o) d.datum d.is (is_in o lt)
 
     -- no byte of it is a constant
-    not_constant : (o v : ℕ) → o < bytes i → g.place.constant (symbol_at g i + o) ≡ Some v → ⊥
+    pub not_constant : (o v : ℕ) → o < bytes i → g.place.constant (symbol_at g i + o) ≡ Some v → ⊥
     not_constant o v lt e =
         let c = placed.constant_of (symbol_at g i + o) v e in
         let below = byte_below g.place c.2.cells c.1 v c.6 in

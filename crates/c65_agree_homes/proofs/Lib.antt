@@ -1,14 +1,14 @@
 pub mod Among
-mod Distinct
-mod Marks
+pub mod Distinct
+pub mod Marks
 mod Placed
-mod Arrived
-mod Homes
-mod Apart
-mod Sizes
+pub mod Arrived
+pub mod Homes
+pub mod Apart
+pub mod Sizes
 pub mod Own
-mod Lying
-mod Lasting
+pub mod Lying
+pub mod Lasting
 mod Landed
 pub mod Params
 pub mod Begins

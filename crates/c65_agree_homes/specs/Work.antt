@@ -13,9 +13,8 @@ use Rattle.c65_genstmt.specs.Jumps.{following}
 use Rattle.c65_genstmt.specs.Stmts.{case_behind, ways, default_way}
 use Rattle.c65_agree_state.specs.Exprs.{shape_in}
 use Rattle.c65_agree_lines.specs.Lists.{effects_uses, guard_uses, head_uses, stmt_uses}
-use Rattle.c65_agree_stmts.specs.Calling.{Calling, Does, HasValue, HasTest, HasEffect, MayHaveTest, MayHaveEffect}
+use Rattle.c65_agree_stmts.specs.Calling.{Calling, Does, HasValue, HasTest, HasEffect, MayHaveTest, MayHaveEffect, HasResult}
 use Rattle.c65_agree_stmts.specs.Choices.{ChoiceLeads}
-use Rattle.c65_agree_stmts.specs.Trees.{HasResult}
 
 -- the head of a switch
 pub record HasHead (x : Calling) (e : Typed) (s : Stmt) (fresh : ℕ) : Type 0 where

@@ -160,7 +160,7 @@ module _ (g : World) (a : Active) (i : ℕ) (h : Framed) (needs spare e : ℕ) (
     ends = callee.ends its is_calling;
     owns = owned;
     passes = λ u2 entry same. passes u2 entry (reads_last u2 same);
-    does = λ j lt. bodies its below vs j (end_cost h + w) is_calling (omega (arith, lt, le)) (omega (arith, enough));
+    does = λ j lt. bodies its below vs j (end_cost h + w) is_calling (omega (arith, top, ready.sp, ready.joins.top)) (omega (arith, lt, le)) (omega (arith, enough));
     goes = goes;
   }
 

@@ -1,5 +1,5 @@
 -- The result of a call comes to the primary register.
-use Rattle.std.proofs.Common.{◌≡◌, ℕ, ◌+◌, ◌%◌, inl, inr, false, List, [], ◌∷◌, refl, sym, ap, ◌∙◌, subst, arith}
+use Rattle.std.proofs.Common.{◌≡◌, ℕ, ◌+◌, ◌%◌, ◌⊎◌, inl, inr, false, List, [], ◌∷◌, refl, sym, ap, ◌∙◌, subst, arith}
 use Rattle.std.specs.Prelude.{IsTrue, if◌then◌else◌, nat_lt}
 use Rattle.c65_ints.specs.declared.types.IntType.{IntType}
 use Rattle.c65_ints.specs.declared.types.IntType.TheVariants as I
@@ -39,6 +39,7 @@ use Rattle.c65_agree_rows.specs.Rows.{SignedByte, IsWidened}
 use Rattle.c65_agree_rows.specs.Laws.{IsKeptWith}
 use Rattle.c65_agree_rows.proofs.Loads.{widenings_run}
 use Rattle.c65_agree_put.specs.Laws.{IsScalar}
+use Rattle.c65_agree_put.proofs.Fits.{fits_or_none}
 use Rattle.c65_agree_frame.specs.Leads.{IsOn}
 use Rattle.c65_agree_frame.specs.Ends.{IsPrimary}
 use Rattle.c65_agree_frame.proofs.Leads.{none_leads, leads_as, kept_regs, lines_lead}
@@ -63,12 +64,11 @@ no_cells (Field t low width) (Cells xs) s fits w last u same is = absurd s
 no_cells (Area size) (Cells xs) s fits w last u same is = absurd s
 
 value_moves : (f : Shape) (v : Value) → IsScalar f → MayFit Valued f v → (w : Placing) (last u : State) → primary_of (width_in f) last ≡ primary_of (width_in f) u → ResultIs Valued w (width_in f) v last → ResultIs Valued w (width_in f) v u
-value_moves f NoValue s fits w last u same is = tt
-value_moves f (Whole z) s fits w last u same is = no_cells f (Whole z) s fits w last u same is
-value_moves f Null s fits w last u same is = no_cells f Null s fits w last u same is
-value_moves f (Place b o) s fits w last u same is = no_cells f (Place b o) s fits w last u same is
-value_moves f Opaque s fits w last u same is = no_cells f Opaque s fits w last u same is
-value_moves f (Cells xs) s fits w last u same is = no_cells f (Cells xs) s fits w last u same is
+value_moves f v s fits w last u same is = go (fits_or_none f v s fits)
+  where
+    go : Fits f v ⊎ (v ≡ NoValue) → ResultIs Valued w (width_in f) v u
+    go (inl h) = no_cells f v s h w last u same is
+    go (inr e) = subst (λ x. ResultIs Valued w (width_in f) x u) (sym e) tt
 
 -- ---- words and long words
 

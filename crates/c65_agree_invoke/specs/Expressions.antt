@@ -1,4 +1,4 @@
--- Calls as expressions, where the bodies of called functions do their work for any number of steps.
+-- Calls as expressions, where the bodies of called functions do their work for fewer steps than are spoken of.
 use Rattle.std.specs.Prelude.{◌≡◌, ℕ, ◌≤◌, false, None}
 use Rattle.c65_ctype.specs.Trees.{QTy, type_in}
 use Rattle.c65_csem.specs.Trees.{Typed, node, call, Nodes, Stmt, FuncTy}
@@ -23,7 +23,7 @@ NamedCallsAreExpressions = (g : World) (a : Active) (i : ℕ) (h : Framed) (need
     → IsPlacement g.code g.place → FixedAreLow g → CallsAreOwned g a → 1 ≤ a.spare → a.frame.parts ≡ g.parts
     → library_at a.frame i ≡ None → is_counted (bare (by_name s r i)) ≡ false
     → IsCallee g a.frame i h needs spare e function body (is_fast (bare (by_name s r i))) es → ArgumentsDo g a es
-    → ((n : ℕ) → BodiesDo g i h needs spare body (shape_of (unit_in g).types (type_in t)) n)
+    → BodiesDo g i h needs spare body (shape_of (unit_in g).types (type_in t)) g.most
     → ResultsCome g a (shape_of (unit_in g).types (type_in t)) (common_of (gives_in a.frame t) ((setting_in g).gives (function_symbol (numbers_of g.parts) i).0)) (result_code (outcome_of a.frame (type_in t)))
     → ExpressionDoes g a (node t (call (by_name s r i) es))
 
@@ -32,5 +32,5 @@ abbrev pub PointerCallsAreExpressions : Type 0
 PointerCallsAreExpressions = (g : World) (a : Active) (size : ℕ) (t : QTy) (f : Typed) (es : Nodes)
     → IsPlacement g.code g.place → FixedAreLow g → CallsAreOwned g a → 1 ≤ a.spare
     → named f ≡ None → is_counted (bare f) ≡ false → yield_of (unit_in g) f ≡ Valued → shape_in g a f ≡ Pointer size → sizes_of a.frame es ≤ 250
-    → ExpressionDoes g a f → ArgumentsDo g a es → ((n : ℕ) → TargetsMayBeCalled g a t f es n)
+    → ExpressionDoes g a f → ArgumentsDo g a es → TargetsMayBeCalled g a t f es g.most
     → ExpressionDoes g a (node t (call f es))

@@ -17,7 +17,7 @@ use Rattle.c65_code.specs.declared.parts.RegSet.{RegSet}
 use Rattle.c65_code.specs.Parts.{has_part}
 use Rattle.c65_code.specs.LineState.{State, Same}
 use Rattle.c65_code.specs.Moves.{common_of}
-use Rattle.c65_code.specs.Placement.{IsPlacement}
+use Rattle.c65_code.specs.Placement.{IsPlacement, stack_end}
 use Rattle.c65_code.specs.Steady.{HasLines}
 use Rattle.c65_code.specs.Comes.{Seen}
 use Rattle.c65_genframe.specs.declared.home.Home.TheVariants.{Soft}
@@ -33,6 +33,7 @@ use Rattle.c65_genexpr.specs.Calls.{named, library_at, result_code}
 use Rattle.c65_genexpr.specs.Code.{expr_code}
 use Rattle.c65_agree_store.specs.Stands.{Placing, Banks}
 use Rattle.c65_agree_state.specs.World.{World, unit_in, setting_in, Active, lines_of, place_in, owned_at, HasAt, HasTurns}
+use Rattle.c65_agree_state.specs.Joins.{call_bytes}
 use Rattle.c65_agree_state.specs.Follows.{Follows}
 use Rattle.c65_agree_state.specs.Exprs.{Ready, Yield, Valued, yield_of, MayFit, ResultIs, Kept, Rest, width_in}
 use Rattle.c65_agree_state.specs.Exprs as exprs
@@ -89,9 +90,9 @@ pub record IsCallee (g : World) (f : Framed) (i : ℕ) (h : Framed) (needs spare
   pub short : h.stacked ≤ 1024
   pub costs : h.soft + (saved_bytes h.bank + (passed_of f fast es).last) + 8 * needs + spare ≤ cost_of (unit_in g) (types_of es) body
 
--- its body does its work in each of its calls, for less than n steps
+-- its body does its work in each of its calls that are on the software stack with all that they have there, for less than n steps
 abbrev pub BodiesDo : World → ℕ → Framed → ℕ → ℕ → Stmt → Shape → ℕ → Type 0
-BodiesDo g i h needs spare body result n = (a : Active) (below : List Item) (vs : List Value) (j v : ℕ) → IsCalling g i h spare a → j < n → 2600 ≤ v → BodyDoes g a needs body result below vs j v
+BodiesDo g i h needs spare body result n = (a : Active) (below : List Item) (vs : List Value) (j v : ℕ) → IsCalling g i h spare a → a.base + call_bytes a ≤ stack_end → j < n → 2600 ≤ v → BodyDoes g a needs body result below vs j v
 
 -- ---- the result
 

@@ -9,9 +9,8 @@ use Rattle.c65_ints.specs.declared.types.IntType.{IntType}
 use Rattle.c65_csem.specs.Trees.{Typed}
 use Rattle.c65_csem_need.specs.Needs.{need}
 use Rattle.c65_meaning.specs.Why.{Unfit}
-use Rattle.c65_meaning.specs.Store.{Block, Value, Whole, Null, Opaque, Cells, NoValue, Shape, Number, Field, Pointer, Area}
+use Rattle.c65_meaning.specs.Store.{Block, Shape}
 use Rattle.c65_meaning.specs.Store as values
-use Rattle.c65_meaning.specs.Fits.{Fits}
 use Rattle.c65_meaning.specs.Items.{Name, Fetch, plan}
 use Rattle.c65_meaning.specs.Shapes.{shape_of, object_block, object_in, lives_in_frame}
 use Rattle.c65_meaning.specs.State.{Scene, Running, block_in}
@@ -40,24 +39,17 @@ use Rattle.c65_genexpr.specs.Places.{more, near, soft_place, place_at, object_pl
 use Rattle.c65_agree_store.specs.Stands.{Spot, At, Banked, Placing, Banks, IsAt, beyond}
 use Rattle.c65_agree_state.specs.World.{World, unit_in, Active, place_in}
 use Rattle.c65_agree_state.specs.Follows.{Follows}
-use Rattle.c65_agree_state.specs.Exprs.{Ready, Valued, MayFit, Does, shape_in}
+use Rattle.c65_agree_state.specs.Exprs.{Ready, Valued, Does, shape_in}
 use Rattle.c65_agree_state.proofs.Followed.{follows_weaken, steps_earn, ready_is_calm}
 use Rattle.c65_agree_places.specs.Places.{spot_in, home_place, IsReached}
 use Rattle.c65_agree_places.proofs.Spots.{objects_are_at_home, objects_are_at_symbols}
 use Rattle.c65_agree_rows.proofs.Quiet.{nothing_follows}
 use Rattle.c65_agree_put.specs.Laws.{IsScalar}
+use Rattle.c65_agree_put.proofs.Fits.{may_fit}
 use Rattle.c65_agree_assign.specs.Places.{kind_in}
 use Rattle.c65_agree_load.specs.Loads.{IsNear, IsMeantThere}
 use Rattle.c65_agree_load.specs.Objects.{IsHomed, IsTold, NamedAreLoaded, load_of, ObjectsAreLoaded}
 use Rattle.c65_agree_load.proofs.Fetched.{fetches_are_followed}
-
-pub may_fit : (f : Shape) (v : Value) → Fits f v → MayFit Valued f v
-may_fit f (Whole z) h = h
-may_fit f Null h = h
-may_fit f (values.Place b o) h = h
-may_fit f Opaque h = h
-may_fit f (Cells xs) h = h
-may_fit f NoValue h = tt
 
 beyond_none : (s : Spot) → s ≡ beyond s 0
 beyond_none (At at) = ap At (omega arith)
@@ -91,7 +83,7 @@ named_are_loaded g a needs pushed i f place placed scalar homed is is_near kept_
     fetched j m lt meant =
         fetches_are_followed g a pushed needs place f c w b t m 0 j (weight + 4000) p k vs seen placed has r scalar is_near kept_there meant turns (λ h v u after less kept result fits e later.
         follows_weaken g h (weight + 2600) (weight + 4000 + 3470) (Running k (v ∷ vs) c) (place_in g a (p + length (load_code place (access.Whole (kind_in f))))) u after (omega arith)
-        (rest h v c w b u after (omega (arith, lt, less)) (record { kept = kept; result = result; fits = may_fit f v fits }) later))
+        (rest h v c w b u after (omega (arith, lt, less)) (record { kept = kept; result = result; fits = may_fit f v scalar fits }) later))
 
     own : (j : ℕ) → j < n → (m : Option ℕ) → block_in c.frames i ≡ m → Follows g j (weight + 4000) (go_on (step.place_in m) (Fetch f ∷ k) vs c) (place_in g a p) t seen
     own j lt None e = nothing_follows g Unfit j (weight + 4000) (place_in g a p) t seen

@@ -5,7 +5,7 @@ use Rattle.c65_ints.specs.declared.types.IntType.{IntType}
 use Rattle.c65_ints.specs.declared.types.IntType.TheVariants as I
 use Rattle.c65_meaning.specs.declared.action.Action.TheVariants.{OutsideObject, EndedObject}
 use Rattle.c65_meaning.specs.Why.{By}
-use Rattle.c65_meaning.specs.Store.{Block, Value, Whole, Null, Opaque, Cells, NoValue, Shape, Pointer, is_live}
+use Rattle.c65_meaning.specs.Store.{Value, Whole, Null, Opaque, Cells, NoValue, Shape, Pointer, is_live}
 use Rattle.c65_meaning.specs.Store as values
 use Rattle.c65_meaning.specs.Operators.{unusable, named_by}
 use Rattle.c65_meaning.specs.Items.{Item, Follow, Fetch}
@@ -33,7 +33,7 @@ use Rattle.c65_agree_assign.specs.Places.{kind_in}
 use Rattle.c65_agree_load.specs.Loads.{IsKeptThere, IsMeantThere}
 use Rattle.c65_agree_load.specs.Objects.{TargetsAreLoaded}
 use Rattle.c65_agree_load.proofs.Fetched.{fetches_are_followed}
-use Rattle.c65_agree_load.proofs.Objects.{may_fit}
+use Rattle.c65_agree_put.proofs.Fits.{may_fit}
 
 far_is_kept : (kind : IntType) → IsKeptThere (Far 0) (extent_of kind)
 far_is_kept I.SChar = tt
@@ -66,7 +66,7 @@ module _ (g : World) (a : Active) (size : ℕ) (f : Shape) (pushed needs : ℕ) 
     at_place : (m o : ℕ) → Done g a Valued (Pointer size) c w b t (values.Place m o) c2 w2 b2 u → Follows g i (weight + 2600 + 4000) (Running (Fetch f ∷ k) (values.Place m o ∷ vs) c2) (place_in g a (p + length lines)) u later
     at_place m o done =
         fetches_are_followed g a pushed needs (Far 0) f c2 w2 b2 u m o i (weight + 2600 + 4000) (p + length lines) k vs later placed has ready scalar (omega arith) (far_is_kept (kind_in f)) (named_is_meant g a size c2 w2 u m o done.result) turned (λ h v x after fewer kept result fits e turns2.
-        let both : Done g a Valued f c w b t v c2 w2 b2 x = record { kept = kept_goes_on g a c c2 c2 w w2 w2 b b2 b2 t u x done.kept kept; result = result; fits = may_fit f v fits } in
+        let both : Done g a Valued f c w b t v c2 w2 b2 x = record { kept = kept_goes_on g a c c2 c2 w w2 w2 b b2 b2 t u x done.kept kept; result = result; fits = may_fit f v scalar fits } in
         subst (λ z. Follows g h (weight + 2600 + 4000 + 3470) (Running k (v ∷ vs) c2) (place_in g a z) x after) (sym behind)
         (follows_weaken g h (weight + 2600) (weight + 2600 + 4000 + 3470) (Running k (v ∷ vs) c2) (place_in g a (p + length (lines ++ load))) x after (omega arith)
         (rest h v c2 w2 b2 x after (omega (arith, lt, less, fewer)) both (subst (λ z. HasTurns g c2.turns (place_in g a z) after) behind turns2))))

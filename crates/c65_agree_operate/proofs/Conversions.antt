@@ -21,10 +21,11 @@ use Rattle.c65_agree_store.specs.Stands.{Placing, ValueIs}
 use Rattle.c65_agree_numbers.specs.Words.{word_of, converted_word}
 use Rattle.c65_agree_numbers.proofs.Ranges.{words_are_converted}
 use Rattle.c65_agree_state.specs.Exprs.{Valued, MayFit, ResultIs, width_in}
+use Rattle.c65_agree_state.proofs.Yields.{nothing_fits}
 use Rattle.c65_agree_put.specs.Laws.{IsScalar}
 use Rattle.c65_agree_assign.specs.Places.{kind_in}
 use Rattle.c65_agree_frame.proofs.Leads.{none_leads, leads_as}
-use Rattle.c65_agree_load.proofs.Objects.{may_fit}
+use Rattle.c65_agree_put.proofs.Fits.{may_fit}
 use Rattle.c65_agree_operate.specs.Laws.{ConversionsDo, DiscardsDo}
 use Rattle.c65_agree_operate.proofs.Manners.{left_where}
 use Rattle.c65_agree_operate.proofs.Behind.{IsGiven, then_does}
@@ -129,10 +130,10 @@ primary_below Eax t b = omega (arith, b.a, b.x, b.zp 2, b.zp 3)
 pub conversions_do : ConversionsDo
 conversions_do g a m f h needs pushed work lines placed few scalar target light does =
     then_does g a m Valued f h work needs pushed lines (convert_code (kind_in f) (kind_in h)) (Change h) few (λ s v. converted h v) (λ k vs c v. refl)
-    (λ s v x fit e. may_fit h x (conversions_fit h v x (is_target h target) e))
+    (λ s v x fit e. may_fit h x target (conversions_fit h v x (is_target h target) e))
     (λ c w b u v x ready result fit e.
     let n : ℕ = primary_of (width_of (kind_in f)) u in
-    let fits : MayFit Valued h x = may_fit h x (conversions_fit h v x (is_target h target) e) in
+    let fits : MayFit Valued h x = may_fit h x target (conversions_fit h v x (is_target h target) e) in
     let same : width_of (kind_in f) ≡ width_in f = sym (width_same f scalar) in
     let small : n < words_of (width_in f) = subst (λ width. n < words_of width) same (primary_below (width_of (kind_in f)) u ready.joins.bytes) in
     let before : ValueIs w (words_of (width_in f)) v n = subst (λ width. ValueIs w (words_of (width_in f)) v (primary_of width u)) (sym same) (as_value f w (width_in f) v u scalar fit result) in
@@ -148,7 +149,7 @@ conversions_do g a m f h needs pushed work lines placed few scalar target light 
 pub discards_do : DiscardsDo
 discards_do g a m yield f size needs pushed work lines few does =
     then_does g a m yield f (Area size) work needs pushed lines [] (Change (Area size)) few (λ s v. converted (Area size) v) (λ k vs c v. refl)
-    (λ s v x fit e. let same : NoValue ≡ x = cc in subst (MayFit Valued (Area size)) same tt)
+    (λ s v x fit e. let same : NoValue ≡ x = cc in subst (MayFit Valued (Area size)) same (nothing_fits size))
     (λ c w b u v x ready result fit e.
     let same : NoValue ≡ x = cc in
     leads_as g a [] 0 2560 u (IsGiven g a m (Area size) c w b u x) (IsGiven g a m (Area size) c w b u x) (omega arith) (λ y i. i)

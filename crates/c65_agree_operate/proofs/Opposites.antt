@@ -37,7 +37,7 @@ use Rattle.c65_agree_rows.proofs.Families.{opposites_run}
 use Rattle.c65_agree_frame.specs.Leads.{Leads}
 use Rattle.c65_agree_frame.proofs.Leads.{leads_as}
 use Rattle.c65_agree_load.proofs.Kept.{runs_lead}
-use Rattle.c65_agree_load.proofs.Objects.{may_fit}
+use Rattle.c65_agree_put.proofs.Fits.{may_fit}
 use Rattle.c65_agree_operate.specs.Manners.{Manner}
 use Rattle.c65_agree_operate.specs.Laws.{IsOpposite, OppositesDo}
 use Rattle.c65_agree_operate.proofs.Manners.{left_scene}
@@ -87,8 +87,8 @@ own_word ops.Neg t z p = sym (narrowed_same t (unary_result Neg (width_of t) (wo
 own_word _ t z p = sym (narrowed_same t (unary_result Compl (width_of t) (word_of t z)) p) ∙ (opposites_are_on_words t z).1
 
 same_shape : (op : UnaryOp) (t : IntType) (x : Value) → IsOpposite op → Fits (unary_shape op (Number t)) x → MayFit Valued (Number t) x
-same_shape ops.Neg t x o h = may_fit (Number t) x h
-same_shape ops.BitNot t x o h = may_fit (Number t) x h
+same_shape ops.Neg t x o h = may_fit (Number t) x tt h
+same_shape ops.BitNot t x o h = may_fit (Number t) x tt h
 same_shape _ t x o h = absurd o
 
 module _ (g : World) (a : Active) (m : Manner) (op : UnaryOp) (t : IntType) (pushed needs : ℕ) (placed : IsPlacement g.code g.place) (heavy : m.light ≡ false) (opposite : IsOpposite op) (promoted : is_promoted t ≡ true) (c : Scene) (w : Placing) (b : Banks) (u : State) (v x : Value)

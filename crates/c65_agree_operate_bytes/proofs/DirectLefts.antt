@@ -32,7 +32,7 @@ use Rattle.c65_agree_state.specs.World.{World, Active, lines_of, place_in, IsPla
 use Rattle.c65_agree_state.specs.Exprs.{Ready, Valued, ResultIs, width_in, shape_in}
 use Rattle.c65_agree_state.proofs.Followed.{follows_weaken}
 use Rattle.c65_agree_state.proofs.Nodes.{has_front, has_back, ready_stays}
-use Rattle.c65_agree_load.proofs.Objects.{may_fit}
+use Rattle.c65_agree_put.proofs.Fits.{may_fit}
 use Rattle.c65_agree_direct.proofs.Trees.{direct_trees_are_read_on}
 use Rattle.c65_agree_direct.specs.Operands.{byte_in, MayRead, IsOfLive, HasBytes}
 use Rattle.c65_agree_operate.specs.Manners.{Manner, Where, IsLeft, DoesIn}
@@ -111,7 +111,7 @@ module _ (g : World) (a : Active) (m : Manner) (pure : Bool) (op : BinaryOp) (t 
       (behind j weight p (Apply2 op (Number t) (Number t) ∷ k) (va ∷ vs) c w b s seen (has_front (lines_of g a) p right end has) ready1 turns (λ i vb c3 w3 b3 s3 seen3 lt3 done3 left3 turned3.
       let ready3 : Ready g a pushed more_needs c3 w3 b3 s3 = ready_stays g a pushed more_needs more_needs c c3 w w3 b b3 s s3 (omega arith) ready1 done3.kept in
       let ends : p + length right + length end ≡ p + length (right ++ end) = omega (arith, length-append right end) in
-      last_follows g a m op t t few (read_is_plain op t low high form is) pushed more_needs n weight (p + length (right ++ end)) (p + length right) end ends k vs c w b s rest (has_back (lines_of g a) p right end has) c3 w3 b3 s3 ready3 done3.kept (less_left m pure c c3 s s3 asked left3) va vb (may_fit (Number t) va fit) done3.fits
+      last_follows g a m op t t few (read_is_plain op t low high form is) pushed more_needs n weight (p + length (right ++ end)) (p + length right) end ends k vs c w b s rest (has_back (lines_of g a) p right end has) c3 w3 b3 s3 ready3 done3.kept (less_left m pure c c3 s s3 asked left3) va vb (may_fit (Number t) va tt fit) done3.fits
       (λ x y z e f fits1 fits2 calculates.
       let bytes : HasBytes g c3.store w3 s3 (width_of t) d (Whole x) = subst (HasBytes g c3.store w3 s3 (width_of t) d) e (told more_needs c3 w3 b3 s3 left3.scene done3.kept.grows ready3) in
       let result3 : primary_of (width_of t) s3 ≡ word_of t y = subst (λ v. ResultIs Valued w3 (width_of t) v s3) f done3.result in

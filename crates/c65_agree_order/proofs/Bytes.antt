@@ -33,7 +33,7 @@ use Rattle.c65_agree_rows.proofs.Quiet.{write_other}
 use Rattle.c65_agree_frame.specs.Leads.{Leads}
 use Rattle.c65_agree_frame.proofs.Leads.{kept_zero, lines_lead}
 use Rattle.c65_agree_load.proofs.Kept.{is_on, kept_later, ready_later}
-use Rattle.c65_agree_load.proofs.Objects.{may_fit}
+use Rattle.c65_agree_put.proofs.Fits.{may_fit}
 use Rattle.c65_agree_direct.specs.Operands.{byte_in, MayRead, Loads}
 use Rattle.c65_agree_operate.specs.Manners.{Manner, IsHeld, IsLeft}
 use Rattle.c65_agree_operate.specs.Laws.{on_numbers}
@@ -58,7 +58,7 @@ read_bytes_come g a m t needs pushed work x placed few reads n w p k vs c q b u 
     (operand_leads g a u placed (is_on g a pushed needs c q b u placed ready) Loads x u.regs there.0 ready.joins.bytes j (w + 2600 + m.over) p c.turns (Running k (v ∷ vs) c) seen has turns (λ u2 later h turned.
     let only : u2 ≡ at_regs u u2.regs = h.0 ∙ ap (at_regs u) (sym (ap (λ (s : State). s.regs) h.0)) in
     let loaded : u2.regs.a ≡ byte_in g u x = ap (λ (s : State). s.regs.a) h.0 in
-    rest j v c q b u2 later lt (registers_kept g a pushed needs c q b u u2 placed ready only h.1) (may_fit (Number t) v fit) byte (subst (ByteIs v) (sym loaded) there.1) (left_held m c u u2 (registers_held u u2 only)) turned)))
+    rest j v c q b u2 later lt (registers_kept g a pushed needs c q b u u2 placed ready only h.1) (may_fit (Number t) v tt fit) byte (subst (ByteIs v) (sym loaded) there.1) (left_held m c u u2 (registers_held u u2 only)) turned)))
 
 module _ (g : World) (a : Active) (op : BinaryOp) (r : Relation) (t : IntType) (s : Bool) (to own pushed needs : ℕ) (placed : IsPlacement g.code g.place) (by_op : relation_of op ≡ Some r) where
   abbrev tail : Relation → OperandByte → List Line
@@ -96,7 +96,7 @@ module _ (g : World) (a : Active) (m : Manner) (op : BinaryOp) (r : Relation) (t
       before n weight p (second (Apply2 op (Number t) (Number t) ∷ k)) vs c w b u seen (has_front (lines_of g a) p front ls has) ready0 turns (λ j va c1 w1 b1 s1 seen1 lt kept1 fits1 byte1 here left1 turned1.
       let ready1 : Ready g a pushed more_needs c1 w1 b1 s1 = ready_stays g a pushed (max needs (1 + more_needs)) more_needs c c1 w w1 b b1 u s1 (omega arith) ready kept1 in
       reads more_needs j (weight + 2600 + m.over) (Apply2 op (Number t) (Number t) ∷ k) (va ∷ vs) c1 w1 b1 (place_in g a (p + length front)) s1 seen1 ready1 turned1 (λ i vb lt2 fit byte2 there.
-      settled_follows g a m op t s to placed (order_compares op r by_op) pushed more_needs n weight (p + length (front ++ ls)) (p + length front) ls ends k vs c w b u rest (has_back (lines_of g a) p front ls has) c1 w1 b1 s1 ready1 kept1 left1 va vb fits1 (may_fit (Number t) vb fit)
+      settled_follows g a m op t s to placed (order_compares op r by_op) pushed more_needs n weight (p + length (front ++ ls)) (p + length front) ls ends k vs c w b u rest (has_back (lines_of g a) p front ls has) c1 w1 b1 s1 ready1 kept1 left1 va vb fits1 (may_fit (Number t) vb tt fit)
       (λ y z told e f one two gives. leads c1 w1 b1 s1 va vb ready1 byte1 byte2 here there y z told e f one two gives)
       seen1 turned1 (weight + 2600 + m.over + 4000) (omega arith) i (omega (arith, lt, lt2))))
 
@@ -111,7 +111,7 @@ module _ (g : World) (a : Active) (m : Manner) (pure : Bool) (op : BinaryOp) (r 
       follows_weaken g j weight (weight + 4000) (Running (second (Apply2 op (Number t) (Number t) ∷ k)) (va ∷ vs) c) (place_in g a p) u seen (omega arith)
       (behind j weight p (Apply2 op (Number t) (Number t) ∷ k) (va ∷ vs) c w b u seen (has_front (lines_of g a) p front ls has) ready1 turns (λ i vb c3 w3 b3 s3 seen3 lt3 kept3 fits3 byte3 here left3 turned3.
       let ready3 : Ready g a pushed more_needs c3 w3 b3 s3 = ready_stays g a pushed more_needs more_needs c c3 w w3 b b3 u s3 (omega arith) ready1 kept3 in
-      settled_follows g a m op t s to placed (order_compares op r by_op) pushed more_needs n weight (p + length (front ++ ls)) (p + length front) ls ends k vs c w b u rest (has_back (lines_of g a) p front ls has) c3 w3 b3 s3 ready3 kept3 (less_left m pure c c3 u s3 wanted left3) va vb (may_fit (Number t) va fit) fits3
+      settled_follows g a m op t s to placed (order_compares op r by_op) pushed more_needs n weight (p + length (front ++ ls)) (p + length front) ls ends k vs c w b u rest (has_back (lines_of g a) p front ls has) c3 w3 b3 s3 ready3 kept3 (less_left m pure c c3 u s3 wanted left3) va vb (may_fit (Number t) va tt fit) fits3
       (λ y z truth_is e f one two gives. leads c3 w3 b3 s3 va vb ready3 byte1 byte3 here (told more_needs c3 w3 b3 s3 left3.scene kept3.grows ready3) y z truth_is e f one two gives)
       seen3 turned3 (weight + 2600 + m.over) (omega arith) i (omega (arith, lt, lt3)))))
 

@@ -31,7 +31,7 @@ use Rattle.c65_agree_state.specs.Exprs.{Ready, Valued, MayFit, ResultIs}
 use Rattle.c65_agree_state.proofs.Followed.{follows_weaken, steps_earn, ready_is_calm}
 use Rattle.c65_agree_state.proofs.Nodes.{ready_stays}
 use Rattle.c65_agree_rows.proofs.Quiet.{nothing_follows}
-use Rattle.c65_agree_load.proofs.Objects.{may_fit}
+use Rattle.c65_agree_put.proofs.Fits.{may_fit}
 use Rattle.c65_agree_operate.specs.Manners.{Manner}
 use Rattle.c65_agree_order.specs.Bytes.{IsByte, ByteIs, Any, LowsIn}
 use Rattle.c65_agree_order.specs.Laws.{ValuesAreLow, CharsAreBytes, ConversionsKeepLows, ConversionsKeepBytes}
@@ -143,7 +143,7 @@ module _ (g : World) (a : Active) (m : Manner) (r t : IntType) (needs pushed : �
       steps_earn g j (w + 2600 + m.over) (Change (Number t)) k (v ∷ vs) c2 (place_in g a (p + length lines)) u later (ready_is_calm g a pushed needs c2 q2 b2 u ready2).calm ready2.joins.output ready2.joins.ended (omega (arith, turned)) (λ o less.
       step_goes g o (w + 2600 + m.over + 4000) (place_in g a (p + length lines)) u later k vs c2 (converted (Number t) v) (λ x e.
       follows_weaken g o (w + 2600 + m.over) (w + 2600 + m.over + 4000) (Running k (x ∷ vs) c2) (place_in g a (p + length lines)) u later (omega arith)
-      (rest o x c2 q2 b2 u later (omega (arith, lt, less)) kept (may_fit (Number t) x (conversions_fit (Number t) v x tt e)) (stays v x fit so e) (converted_low r t v x u.regs.a fit low e) left turned))))
+      (rest o x c2 q2 b2 u later (omega (arith, lt, less)) kept (may_fit (Number t) x tt (conversions_fit (Number t) v x tt e)) (stays v x fit so e) (converted_low r t v x u.regs.a fit low e) left turned))))
 
 pub conversions_keep_lows : ConversionsKeepLows
 conversions_keep_lows g a m r t needs pushed work lines does = converted_in g a m r t needs pushed work lines Any Any (λ v x fit so e. tt) does

@@ -21,7 +21,6 @@ use Rattle.c65_agree_numbers.proofs.Tests.{less, equal, unequal}
 use Rattle.c65_agree_direct.specs.Operands.{IsOfLive}
 use Rattle.c65_agree_compare.specs.Laws.{IsEqual}
 use Rattle.c65_agree_compare.proofs.Directs.{some_is}
-use Rattle.c65_agree_order.specs.Pointers.{Asks}
 use Rattle.c65_agree_order.proofs.Tells.{tells}
 
 -- ---- operators and relations
@@ -58,12 +57,22 @@ or_parts : (x y : Bool) → (x || y) ≡ false → (x ≡ false) × (y ≡ false
 or_parts true y e = absurd (cc)
 or_parts false y e = (refl, e)
 
--- a place at the end of its block, and one inside another block
+-- a place that may meet none is not behind its block's end
+not_behind : (s : Store) (b o c p m : ℕ) → block_size s b ≡ m → end_meets s b o c p ≡ false → o ≤ m
+not_behind s b o c p m is f = go (cases_lt m o)
+  where
+    go : (m < o) ⊎ (o ≤ m) → o ≤ m
+    go (inr h) = h
+    go (inl h) =
+        let behind : nat_lt (block_size s b) o ≡ true = less (block_size s b) o (omega (arith, is, h)) in
+        let clash : true ≡ false = sym behind ∙ (or_parts (nat_lt (block_size s b) o) (o == block_size s b && nat_lt p (block_size s c)) f).0 in absurd (cc)
+
+-- nor at its end, where the other lies inside its own
 ends_meet : (s : Store) (b o c p m n : ℕ) → block_size s b ≡ m → block_size s c ≡ n → o ≡ m → p < n → end_meets s b o c p ≡ false → ⊥
 ends_meet s b o c p m n is is2 e lt f =
     let end : (o == block_size s b) ≡ true = equal o (block_size s b) (e ∙ sym is) in
     let inside : nat_lt p (block_size s c) ≡ true = less p (block_size s c) (omega (arith, lt, is2)) in
-    let clash : true ≡ false = sym (both (o == block_size s b) (nat_lt p (block_size s c)) end inside) ∙ f in absurd (cc)
+    let clash : true ≡ false = sym (both (o == block_size s b) (nat_lt p (block_size s c)) end inside) ∙ (or_parts (nat_lt (block_size s b) o) (o == block_size s b && nat_lt p (block_size s c)) f).1 in absurd (cc)
   where
     both : (x y : Bool) → x ≡ true → y ≡ true → (x && y) ≡ true
     both true y e f = f
@@ -152,23 +161,23 @@ alive s b v x e = go (is_live s b) refl e
 
 module _ (s : Store) (w : Placing) (mem : Bytes) (k : Banks) (stands : Stands s w mem k) where
   -- places of two blocks have two addresses, but where one may meet the other
-  places_differ : (b c a d o p : ℕ) (x y : Block) → IsAt s w b x (At a) → IsAt s w c y (At d) → (b ≡ c → ⊥) → o ≤ x.size → p ≤ y.size → may_meet s b o c p ≡ false → a + o ≡ d + p → ⊥
-  places_differ b c a d o p x y one two other in_x in_y meets same =
+  places_differ : (b c a d o p : ℕ) (x y : Block) → IsAt s w b x (At a) → IsAt s w c y (At d) → (b ≡ c → ⊥) → may_meet s b o c p ≡ false → a + o ≡ d + p → ⊥
+  places_differ b c a d o p x y one two other meets same =
       let parts = or_parts (end_meets s b o c p || end_meets s c p b o) (is_empty s b || is_empty s c) meets in
       let ends = or_parts (end_meets s b o c p) (end_meets s c p b o) parts.0 in
       let empty = or_parts (is_empty s b) (is_empty s c) parts.1 in
       let size1 : block_size s b ≡ x.size = ap size_in_store one.is in
       let size2 : block_size s c ≡ y.size = ap size_in_store two.is in
-      go (cases_lt o x.size) (cases_lt p y.size) ends.0 ends.1 (some_size s b x.size size1 empty.0) (some_size s c y.size size2 empty.1) size1 size2
+      go (cases_lt o x.size) (cases_lt p y.size) ends.0 ends.1 (some_size s b x.size size1 empty.0) (some_size s c y.size size2 empty.1) size1 size2 (not_behind s b o c p x.size size1 ends.0) (not_behind s c p b o y.size size2 ends.1)
     where
       apart : (i j : ℕ) → i < x.size → j < y.size → a + i ≡ d + j → ⊥
       apart i j lt lt2 e = stands.apart b c x y (At a) (At d) one two other i j lt lt2 (ap At e)
 
-      go : (o < x.size) ⊎ (x.size ≤ o) → (p < y.size) ⊎ (y.size ≤ p) → end_meets s b o c p ≡ false → end_meets s c p b o ≡ false → 0 < x.size → 0 < y.size → block_size s b ≡ x.size → block_size s c ≡ y.size → ⊥
-      go (inl lt) (inl lt2) f g some some2 size1 size2 = apart o p lt lt2 same
-      go (inr le) (inl lt2) f g some some2 size1 size2 = ends_meet s b o c p x.size y.size size1 size2 (omega (arith, le, in_x)) lt2 f
-      go (inl lt) (inr le2) f g some some2 size1 size2 = ends_meet s c p b o y.size x.size size2 size1 (omega (arith, le2, in_y)) lt g
-      go (inr le) (inr le2) f g some some2 size1 size2 = apart (x.size - 1) (y.size - 1) (omega (arith, some)) (omega (arith, some2)) (omega (arith, same, le, le2, in_x, in_y, some, some2))
+      go : (o < x.size) ⊎ (x.size ≤ o) → (p < y.size) ⊎ (y.size ≤ p) → end_meets s b o c p ≡ false → end_meets s c p b o ≡ false → 0 < x.size → 0 < y.size → block_size s b ≡ x.size → block_size s c ≡ y.size → o ≤ x.size → p ≤ y.size → ⊥
+      go (inl lt) (inl lt2) f g some some2 size1 size2 in_x in_y = apart o p lt lt2 same
+      go (inr le) (inl lt2) f g some some2 size1 size2 in_x in_y = ends_meet s b o c p x.size y.size size1 size2 (omega (arith, le, in_x)) lt2 f
+      go (inl lt) (inr le2) f g some some2 size1 size2 in_x in_y = ends_meet s c p b o y.size x.size size2 size1 (omega (arith, le2, in_y)) lt g
+      go (inr le) (inr le2) f g some some2 size1 size2 in_x in_y = apart (x.size - 1) (y.size - 1) (omega (arith, some)) (omega (arith, some2)) (omega (arith, same, le, le2, in_x, in_y, some, some2))
 
   live_at : (b a : ℕ) → w b ≡ Some (At a) → is_live s b ≡ true → IsLiveAt s w b a
   live_at b a place live = go (s b) refl
@@ -184,28 +193,15 @@ module _ (s : Store) (w : Placing) (mem : Bytes) (k : Banks) (stands : Stands s 
       let low : 512 ≤ a = (stands.lies b there.block (At a) there.at).0 in omega (arith, low, is, none)
 
   -- of two blocks
-  apart_told : (r : Relation) (b c a d o p m n : ℕ) → w b ≡ Some (At a) → w c ≡ Some (At d) → is_live s b ≡ true → is_live s c ≡ true → (b ≡ c → ⊥) → m ≡ a + o → n ≡ d + p → Asks r s (Place b o) → Asks r s (Place c p)
-      → IsEqual r → may_meet s b o c p ≡ false → m ≡ n → ⊥
-  apart_told r b c a d o p m n place place2 live live2 other is is2 ask ask2 equality meets same =
+  apart_told : (b c a d o p m n : ℕ) → w b ≡ Some (At a) → w c ≡ Some (At d) → is_live s b ≡ true → is_live s c ≡ true → (b ≡ c → ⊥) → m ≡ a + o → n ≡ d + p → may_meet s b o c p ≡ false → m ≡ n → ⊥
+  apart_told b c a d o p m n place place2 live live2 other is is2 meets same =
       let there = live_at b a place live in
       let there2 = live_at c d place2 live2 in
-      let size1 : block_size s b ≡ there.block.size = ap size_in_store there.at.is in
-      let size2 : block_size s c ≡ there2.block.size = ap size_in_store there2.at.is in
-      let in_x : o ≤ block_size s b = inside r b o equality ask in
-      let in_y : p ≤ block_size s c = inside r c p equality ask2 in
-      places_differ b c a d o p there.block there2.block there.at there2.at other (omega (arith, in_x, size1)) (omega (arith, in_y, size2)) meets (omega (arith, same, is, is2))
-    where
-      inside : (x : Relation) (i j : ℕ) → IsEqual x → Asks x s (Place i j) → j ≤ block_size s i
-      inside Equal i j h ask = ask
-      inside Unequal i j h ask = ask
-      inside Less i j h ask = absurd h
-      inside NotLess i j h ask = absurd h
-      inside Greater i j h ask = absurd h
-      inside NotGreater i j h ask = absurd h
+      places_differ b c a d o p there.block there2.block there.at there2.at other meets (omega (arith, same, is, is2))
 
-  on_places_told : (r : Relation) (size b o c p m n a d : ℕ) (x : Value) → w b ≡ Some (At a) → w c ≡ Some (At d) → m ≡ a + o → n ≡ d + p → is_live s b ≡ true → is_live s c ≡ true → Asks r s (Place b o) → Asks r s (Place c p)
+  on_places_told : (r : Relation) (size b o c p m n a d : ℕ) (x : Value) → w b ≡ Some (At a) → w c ≡ Some (At d) → m ≡ a + o → n ≡ d + p → is_live s b ≡ true → is_live s c ≡ true
       → meaning.on_places s (op_by r) size b o c p ≡ Ok x → Told r m n x
-  on_places_told r size b o c p m n a d x place place2 is is2 live live2 ask ask2 e = go (b == c) refl e
+  on_places_told r size b o c p m n a d x place place2 is is2 live live2 e = go (b == c) refl e
     where
       one : (y z : ℕ) → Some (At y) ≡ Some (At z) → y ≡ z
       one y z f = let same : At y ≡ At z = cc in cc
@@ -218,7 +214,7 @@ module _ (s : Store) (w : Placing) (mem : Bytes) (k : Banks) (stands : Stands s 
           subst (λ i. Told r i n x) (sym is) (subst (λ i. Told r (a + o) i x) right (one_block r a o p size x h))
       go false f h =
           let other : b ≡ c → ⊥ = λ same. (let clash : true ≡ false = sym (equal b c same) ∙ f in absurd (cc)) in
-          two_blocks r m n (may_meet s b o c p) x (λ equality meets. apart_told r b c a d o p m n place place2 live live2 other is is2 ask ask2 equality meets) h
+          two_blocks r m n (may_meet s b o c p) x (λ equality meets. apart_told b c a d o p m n place place2 live live2 other is is2 meets) h
 
   null_told : (r : Relation) (m n : ℕ) (x : Value) → (m ≡ n → ⊥) → meaning.apart (op_by r) ≡ Ok x → Told r m n x
   null_told r m n x differ e = two_blocks r m n false x (λ equality meets. differ) (not_met r e)
@@ -231,31 +227,31 @@ module _ (s : Store) (w : Placing) (mem : Bytes) (k : Banks) (stands : Stands s 
       not_met Equal h = h
       not_met Unequal h = h
 
-  pub pointers_tell : (r : Relation) (size : ℕ) (v u : Value) (m n : ℕ) (x : Value) → (IsOfLive s v → ValueIs w 65536 v m) → (IsOfLive s u → ValueIs w 65536 u n) → Asks r s v → Asks r s u → meaning.on_pointers s (op_by r) size v u ≡ Ok x → Told r m n x
-  pointers_tell r size (Place b o) (Place c p) m n x is is2 ask ask2 e =
+  pub pointers_tell : (r : Relation) (size : ℕ) (v u : Value) (m n : ℕ) (x : Value) → (IsOfLive s v → ValueIs w 65536 v m) → (IsOfLive s u → ValueIs w 65536 u n) → meaning.on_pointers s (op_by r) size v u ≡ Ok x → Told r m n x
+  pointers_tell r size (Place b o) (Place c p) m n x is is2 e =
       let one = alive s b (meaning.while_live s c (meaning.on_places s (op_by r) size b o c p)) x e in
       let two = alive s c (meaning.on_places s (op_by r) size b o c p) x one.1 in
       let here = is one.0 in
       let there = is2 two.0 in
-      on_places_told r size b o c p m n here.0 there.0 x here.1 there.1 here.2 there.2 one.0 two.0 ask ask2 two.1
-  pointers_tell r size (Place b o) Null m n x is is2 ask ask2 e =
+      on_places_told r size b o c p m n here.0 there.0 x here.1 there.1 here.2 there.2 one.0 two.0 two.1
+  pointers_tell r size (Place b o) Null m n x is is2 e =
       let one = alive s b (meaning.apart (op_by r)) x e in
       let here = is one.0 in
       null_told r m n x (λ same. not_null b here.0 o m here.1 one.0 here.2 (same ∙ is2 tt)) one.1
-  pointers_tell r size Null (Place c p) m n x is is2 ask ask2 e =
+  pointers_tell r size Null (Place c p) m n x is is2 e =
       let one = alive s c (meaning.apart (op_by r)) x e in
       let there = is2 one.0 in
       null_told r m n x (λ same. not_null c there.0 p n there.1 one.0 there.2 (sym same ∙ is tt)) one.1
-  pointers_tell r size Null Null m n x is is2 ask ask2 e = nulls r m n x (is tt ∙ sym (is2 tt)) e
-  pointers_tell r size (Place b o) (Whole z) m n x is is2 ask ask2 e = absurd (cc)
-  pointers_tell r size (Place b o) Opaque m n x is is2 ask ask2 e = absurd (cc)
-  pointers_tell r size (Place b o) (Cells xs) m n x is is2 ask ask2 e = absurd (cc)
-  pointers_tell r size (Place b o) NoValue m n x is is2 ask ask2 e = absurd (cc)
-  pointers_tell r size Null (Whole z) m n x is is2 ask ask2 e = absurd (cc)
-  pointers_tell r size Null Opaque m n x is is2 ask ask2 e = absurd (cc)
-  pointers_tell r size Null (Cells xs) m n x is is2 ask ask2 e = absurd (cc)
-  pointers_tell r size Null NoValue m n x is is2 ask ask2 e = absurd (cc)
-  pointers_tell r size (Whole z) u m n x is is2 ask ask2 e = absurd (cc)
-  pointers_tell r size Opaque u m n x is is2 ask ask2 e = absurd (cc)
-  pointers_tell r size (Cells xs) u m n x is is2 ask ask2 e = absurd (cc)
-  pointers_tell r size NoValue u m n x is is2 ask ask2 e = absurd (cc)
+  pointers_tell r size Null Null m n x is is2 e = nulls r m n x (is tt ∙ sym (is2 tt)) e
+  pointers_tell r size (Place b o) (Whole z) m n x is is2 e = absurd (cc)
+  pointers_tell r size (Place b o) Opaque m n x is is2 e = absurd (cc)
+  pointers_tell r size (Place b o) (Cells xs) m n x is is2 e = absurd (cc)
+  pointers_tell r size (Place b o) NoValue m n x is is2 e = absurd (cc)
+  pointers_tell r size Null (Whole z) m n x is is2 e = absurd (cc)
+  pointers_tell r size Null Opaque m n x is is2 e = absurd (cc)
+  pointers_tell r size Null (Cells xs) m n x is is2 e = absurd (cc)
+  pointers_tell r size Null NoValue m n x is is2 e = absurd (cc)
+  pointers_tell r size (Whole z) u m n x is is2 e = absurd (cc)
+  pointers_tell r size Opaque u m n x is is2 e = absurd (cc)
+  pointers_tell r size (Cells xs) u m n x is is2 e = absurd (cc)
+  pointers_tell r size NoValue u m n x is is2 e = absurd (cc)

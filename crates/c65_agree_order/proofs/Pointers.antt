@@ -18,7 +18,6 @@ use Rattle.c65_code.specs.Comes.{Seen}
 use Rattle.c65_gendirect.specs.declared.bytes.OperandByte.{OperandByte}
 use Rattle.c65_gendirect.specs.declared.direct.Direct.{Direct}
 use Rattle.c65_gendirect.specs.declared.relation.Relation.{Relation}
-use Rattle.c65_gendirect.specs.declared.relation.Relation.TheVariants.{Less, NotLess, Greater, NotGreater, Equal, Unequal}
 use Rattle.c65_gendirect.specs.declared.compare.Sides.TheVariants.{Word}
 use Rattle.c65_gendirect.specs.Bytes.{byte_of as operand_of}
 use Rattle.c65_gendirect.specs.Compare.{relation_of, mirrored, compare_code}
@@ -38,31 +37,12 @@ use Rattle.c65_agree_operate.proofs.Manners.{left_then, left_held}
 use Rattle.c65_agree_operate.proofs.Exact.{registers_kept, registers_held}
 use Rattle.c65_agree_operate_bytes.proofs.DirectLefts.{less_left}
 use Rattle.c65_agree_compare.specs.Branches.{end_of, RestOfSettled}
-use Rattle.c65_agree_compare.specs.Laws.{IsOrder}
 use Rattle.c65_agree_compare.proofs.Ways.{LeadsBy}
 use Rattle.c65_agree_compare.proofs.Equal.{OnlyRegs}
-use Rattle.c65_agree_order.specs.Pointers.{Asks}
-use Rattle.c65_agree_order.specs.Laws.{OrdersAskNothing, PointersSettle, PointersBehindSettle}
+use Rattle.c65_agree_order.specs.Laws.{PointersSettle, PointersBehindSettle}
 use Rattle.c65_agree_order.proofs.Tells.{tells, sense_tells, mirrored_tells}
 use Rattle.c65_agree_order.proofs.Wholes.{number_at, IsReadAs, whole_leads}
 use Rattle.c65_agree_order.proofs.PointerTells.{op_is, Told, pointers_tell}
-
--- ---- orders ask nothing
-
-asks_nothing : (r : Relation) (c : Scene) (v : Value) → IsOrder r → Asks r c.store v
-asks_nothing Less c v o = tt
-asks_nothing NotLess c v o = tt
-asks_nothing Greater c v o = tt
-asks_nothing NotGreater c v o = tt
-asks_nothing Equal c v o = absurd o
-asks_nothing Unequal c v o = absurd o
-
-pub orders_ask_nothing : OrdersAskNothing
-orders_ask_nothing g a m r size needs pushed work lines d pure o = (
-  (λ does n w p k vs c q b t seen has ready turns rest. does n w p k vs c q b t seen has ready turns (λ j v c2 q2 b2 u later lt done left turned. rest j v c2 q2 b2 u later lt done (asks_nothing r c2 v o) left turned)),
-  (λ reads needs2 n weight k vs c w b p t seen ready turns goes. reads needs2 n weight k vs c w b p t seen ready turns (λ j v lt fit bytes. goes j v lt fit bytes (asks_nothing r c v o))),
-  (λ reads needs2 n weight k vs c w b p t seen ready turns goes. reads needs2 n weight k vs c w b p t seen ready turns (λ j v lt fit told. goes j v lt fit (λ more_needs c2 w2 b2 u scene grows ready2. (told more_needs c2 w2 b2 u scene grows ready2, asks_nothing r c2 v o)))),
-)
 
 -- ---- the words of pointers
 
@@ -106,7 +86,7 @@ word_read g c w u v d low high pair bytes =
 -- the sides began at the state t, and both values are there at the state u
 module _ (g : World) (a : Active) (m : Manner) (op : BinaryOp) (r : Relation) (size other : ℕ) (s : Bool) (to : ℕ) (placed : IsPlacement g.code g.place) (by_op : relation_of op ≡ Some r) (pushed needs n weight end at : ℕ) (ls : List Line) (ends : at + length ls ≡ end) (k : List Item) (vs : List Value) (c : Scene) (w : Placing) (b : Banks) (t : State)
     (rest : RestOfSettled g a m s to n weight end k vs c w b t) (has : HasAt (lines_of g a) at ls) (c2 : Scene) (w2 : Placing) (b2 : Banks) (u : State) (ready : Ready g a pushed needs c2 w2 b2 u) (kept : Kept g a c w b t c2 w2 b2 u) (left : IsLeft m c t c2 u)
-    (va vb : Value) (mw nw : ℕ) (is : IsOfLive c2.store va → ValueIs w2 65536 va mw) (is2 : IsOfLive c2.store vb → ValueIs w2 65536 vb nw) (ask : Asks r c2.store va) (ask2 : Asks r c2.store vb)
+    (va vb : Value) (mw nw : ℕ) (is : IsOfLive c2.store va → ValueIs w2 65536 va mw) (is2 : IsOfLive c2.store vb → ValueIs w2 65536 vb nw)
     (leads : (y : Bool) → tells (relation_by s r) false Ax mw nw ≡ y → LeadsBy g a ls 60 to y u (OnlyRegs u))
     (seen : Seen) (turned : HasTurns g c2.turns (place_in g a at) seen) (more : ℕ) (enough : weight + m.over ≤ more) where
   of_pointers : (o : ℕ) → o < n → (x : Value) → Told r mw nw x → Follows g o (more + 4000) (Running k (x ∷ vs) c2) (place_in g a at) u seen
@@ -124,7 +104,7 @@ module _ (g : World) (a : Active) (m : Manner) (op : BinaryOp) (r : Relation) (s
   stepped : (o : ℕ) → o < n → (x : Result Value Why) → meaning.binary c2.store op (Pointer size) (Pointer other) va vb ≡ x → Follows g o (more + 4000) (go_on x k vs c2) (place_in g a at) u seen
   stepped o lt (Err why) e = nothing_follows g why o (more + 4000) (place_in g a at) u seen
   stepped o lt (Ok x) e =
-      of_pointers o lt x (pointers_tell c2.store w2 u.mem b2 ready.joins.stands r size va vb mw nw x is is2 ask ask2 (subst (λ z. meaning.on_pointers c2.store z size va vb ≡ Ok x) (op_is op r by_op) e))
+      of_pointers o lt x (pointers_tell c2.store w2 u.mem b2 ready.joins.stands r size va vb mw nw x is is2 (subst (λ z. meaning.on_pointers c2.store z size va vb ≡ Ok x) (op_is op r by_op) e))
 
   pub pointers_follow : (i : ℕ) → i ≤ n → Follows g i more (Running (Apply2 op (Pointer size) (Pointer other) ∷ k) (vb ∷ va ∷ vs) c2) (place_in g a at) u seen
   pointers_follow i le =
@@ -138,12 +118,12 @@ pointers_settle g a m op r size other d low high operands right_type s to own ne
     let end : List Line = compare_code (relation_by s r) false (Word low high) own to in
     let ready0 : Ready g a pushed needs c w b t = record { joins = ready.joins; sp = ready.sp; room = omega (arith, ready.room); none_pushed = ready.none_pushed } in
     let ends : p + length left + length end ≡ p + length (left ++ end) = omega (arith, length-append left end) in
-    before n weight p (second (Apply2 op (Pointer size) (Pointer other) ∷ k)) vs c w b t seen (has_front (lines_of g a) p left end has) ready0 turns (λ j va c1 w1 b1 s1 seen1 lt done1 ask1 left1 turned1.
+    before n weight p (second (Apply2 op (Pointer size) (Pointer other) ∷ k)) vs c w b t seen (has_front (lines_of g a) p left end has) ready0 turns (λ j va c1 w1 b1 s1 seen1 lt done1 left1 turned1.
     let ready1 : Ready g a pushed more_needs c1 w1 b1 s1 = ready_stays g a pushed (max needs (1 + more_needs)) more_needs c c1 w w1 b b1 t s1 (omega arith) ready done1.kept in
-    reads more_needs j (weight + 2600 + m.over) (Apply2 op (Pointer size) (Pointer other) ∷ k) (va ∷ vs) c1 w1 b1 (place_in g a (p + length left)) s1 seen1 ready1 turned1 (λ i vb lt2 fit bytes ask2.
+    reads more_needs j (weight + 2600 + m.over) (Apply2 op (Pointer size) (Pointer other) ∷ k) (va ∷ vs) c1 w1 b1 (place_in g a (p + length left)) s1 seen1 ready1 turned1 (λ i vb lt2 fit bytes.
     let word = word_read g c1 w1 s1 vb d low high pair bytes in
     let here = word_is size w1 va s1 done1.fits done1.result in
-    pointers_follow g a m op r size other s to placed by_op pushed more_needs n weight (p + length (left ++ end)) (p + length left) end ends k vs c w b t rest (has_back (lines_of g a) p left end has) c1 w1 b1 s1 ready1 done1.kept left1 va vb (ax_of s1) (number_at g s1 (Word low high)) (λ live. here) word.is ask1 ask2
+    pointers_follow g a m op r size other s to placed by_op pushed more_needs n weight (p + length (left ++ end)) (p + length left) end ends k vs c w b t rest (has_back (lines_of g a) p left end has) c1 w1 b1 s1 ready1 done1.kept left1 va vb (ax_of s1) (number_at g s1 (Word low high)) (λ live. here) word.is
     (λ y e. whole_leads g a own to pushed more_needs placed labels (relation_by s r) false Ax (Word low high) c1 w1 b1 s1 (ax_of s1) (number_at g s1 (Word low high)) y ready1 tt refl word.read e)
     seen1 turned1 (weight + 2600 + m.over + 4000) (omega arith) i (omega (arith, lt, lt2))))
 
@@ -156,11 +136,11 @@ pointers_behind_settle g a m pure op r size other d low high operands right_type
     let ends : p + length right + length end ≡ p + length (right ++ end) = omega (arith, length-append right end) in
     reads more_needs n weight (second (Apply2 op (Pointer size) (Pointer other) ∷ k)) vs c w b (place_in g a p) t seen ready1 turns (λ j va lt fit told.
     follows_weaken g j weight (weight + 4000) (Running (second (Apply2 op (Pointer size) (Pointer other) ∷ k)) (va ∷ vs) c) (place_in g a p) t seen (omega arith)
-    (behind j weight p (Apply2 op (Pointer size) (Pointer other) ∷ k) (va ∷ vs) c w b t seen (has_front (lines_of g a) p right end has) ready1 turns (λ i vb c3 w3 b3 s3 seen3 lt3 done3 ask3 left3 turned3.
+    (behind j weight p (Apply2 op (Pointer size) (Pointer other) ∷ k) (va ∷ vs) c w b t seen (has_front (lines_of g a) p right end has) ready1 turns (λ i vb c3 w3 b3 s3 seen3 lt3 done3 left3 turned3.
     let ready3 : Ready g a pushed more_needs c3 w3 b3 s3 = ready_stays g a pushed more_needs more_needs c c3 w w3 b b3 t s3 (omega arith) ready1 done3.kept in
     let later = told more_needs c3 w3 b3 s3 left3.scene done3.kept.grows ready3 in
-    let word = word_read g c3 w3 s3 va d low high pair later.0 in
+    let word = word_read g c3 w3 s3 va d low high pair later in
     let here = word_is other w3 vb s3 done3.fits done3.result in
-    pointers_follow g a m op r size other s to placed by_op pushed more_needs n weight (p + length (right ++ end)) (p + length right) end ends k vs c w b t rest (has_back (lines_of g a) p right end has) c3 w3 b3 s3 ready3 done3.kept (less_left m pure c c3 t s3 wanted left3) va vb (number_at g s3 (Word low high)) (ax_of s3) word.is (λ live. here) later.1 ask3
+    pointers_follow g a m op r size other s to placed by_op pushed more_needs n weight (p + length (right ++ end)) (p + length right) end ends k vs c w b t rest (has_back (lines_of g a) p right end has) c3 w3 b3 s3 ready3 done3.kept (less_left m pure c c3 t s3 wanted left3) va vb (number_at g s3 (Word low high)) (ax_of s3) word.is (λ live. here)
     (λ y e. whole_leads g a own to pushed more_needs placed labels (mirrored (relation_by s r)) false Ax (Word low high) c3 w3 b3 s3 (ax_of s3) (number_at g s3 (Word low high)) y ready3 tt refl word.read (mirrored_tells (relation_by s r) false Ax (number_at g s3 (Word low high)) (ax_of s3) ∙ e))
     seen3 turned3 (weight + 2600 + m.over) (omega arith) i (omega (arith, lt, lt3)))))

@@ -1,8 +1,7 @@
 -- Comparisons of pointers, of which the left one waits in ptr2.
-use Rattle.std.proofs.Common.{◌≡◌, ℕ, ◌+◌, ◌<◌, ◌≤◌, ◌⊎◌, inl, inr, max, List, ◌∷◌, ◌++◌, length, Bool, true, false, Option, Some, None, refl, sym, ap, ◌∙◌, subst, arith, length-append}
-use Rattle.std.proofs.lemmas.Bool.{cases_lt}
+use Rattle.std.proofs.Common.{◌≡◌, ℕ, ◌+◌, ◌≤◌, max, List, ◌∷◌, ◌++◌, length, Bool, true, false, refl, sym, ◌∙◌, subst, arith, length-append, Some}
 use Rattle.c65_base.specs.declared.operators.BinaryOp.{BinaryOp}
-use Rattle.c65_meaning.specs.Store.{Block, Value, Whole, Null, Place, Opaque, Cells, NoValue, Pointer, size_in_store, block_size}
+use Rattle.c65_meaning.specs.Store.{Value, Whole, Null, Place, Opaque, Cells, NoValue, Pointer}
 use Rattle.c65_meaning.specs.Items.{Item, Apply2}
 use Rattle.c65_meaning.specs.State.{Scene, Running}
 use Rattle.c65_code.specs.declared.line.Line.{Line}
@@ -11,7 +10,6 @@ use Rattle.c65_code.specs.LineState.{State, ax_of, IsBytes}
 use Rattle.c65_code.specs.Placement.{IsPlacement}
 use Rattle.c65_code.specs.Comes.{Seen}
 use Rattle.c65_gendirect.specs.declared.relation.Relation.{Relation}
-use Rattle.c65_gendirect.specs.declared.relation.Relation.TheVariants.{Less, NotLess, Greater, NotGreater, Equal, Unequal}
 use Rattle.c65_gendirect.specs.declared.compare.Sides.TheVariants.{Word}
 use Rattle.c65_gendirect.specs.Compare.{relation_of, mirrored, compare_code}
 use Rattle.c65_genexpr.specs.Comparing.{relation_by}
@@ -19,15 +17,15 @@ use Rattle.c65_genexpr.specs.Held.{held_low, held_high, keep_code}
 use Rattle.c65_agree_store.specs.Stands.{At, Placing, Banks, ValueIs}
 use Rattle.c65_agree_state.specs.World.{World, Active, lines_of, place_in, IsPlaced, HasAt, HasTurns}
 use Rattle.c65_agree_state.specs.Follows.{Follows}
-use Rattle.c65_agree_state.specs.Exprs.{Ready, Valued, MayFit, Kept, Done, bounds_of}
+use Rattle.c65_agree_state.specs.Exprs.{Ready, Valued, MayFit, Kept, Done}
 use Rattle.c65_agree_state.proofs.Followed.{follows_weaken}
 use Rattle.c65_agree_state.proofs.Nodes.{has_front, has_back, ready_stays}
 use Rattle.c65_agree_state.proofs.Parts.{kept_goes_on}
-use Rattle.c65_agree_operate.specs.Manners.{Manner, IsHeld, IsLeft}
+use Rattle.c65_agree_operate.specs.Manners.{Manner, IsHeld, IsLeft, DoesIn}
 use Rattle.c65_agree_operate.proofs.Manners.{left_then, dark}
 use Rattle.c65_agree_operate_bytes.proofs.Held.{waiting, keep_leads, kept_waiting, ready_waiting}
 use Rattle.c65_agree_compare.specs.Branches.{RestOfSettled, SettlesIn}
-use Rattle.c65_agree_order.specs.Pointers.{on_pointers, Asks, DoesSo}
+use Rattle.c65_agree_order.specs.Pointers.{on_pointers}
 use Rattle.c65_agree_order.specs.Laws.{HeldPointersSettle}
 use Rattle.c65_agree_order.proofs.Tells.{mirrored_tells}
 use Rattle.c65_agree_order.proofs.Wholes.{IsReadAs, whole_leads}
@@ -35,43 +33,8 @@ use Rattle.c65_agree_order.proofs.Pointers.{word_is, pointers_follow}
 
 -- ---- a place behind more lines
 
--- a block has its size by its bounds
-size_by : (o p : Option Block) → bounds_of o ≡ bounds_of p → size_in_store o ≡ size_in_store p
-size_by None None e = refl
-size_by None (Some y) e = absurd (cc)
-size_by (Some x) None e = absurd (cc)
-size_by (Some x) (Some y) e =
-    let same : (x.size, x.live) ≡ (y.size, y.live) = cc in
-    ap (λ (r : ℕ × Bool). r.0) same
-
 module _ (g : World) (a : Active) (pushed needs size : ℕ) (c c2 : Scene) (w w2 : Placing) (k k2 : Banks) (t u : State) (ready : Ready g a pushed needs c w k t) (kept : Kept g a c w k t c2 w2 k2 u) where
-  same_size : (b at : ℕ) → w b ≡ Some (At at) → block_size c2.store b ≡ block_size c.store b
-  same_size b at place = go (cases_lt b c.next)
-    where
-      go : (b < c.next) ⊎ (c.next ≤ b) → block_size c2.store b ≡ block_size c.store b
-      go (inl lt) = size_by (c2.store b) (c.store b) (kept.bounds b lt)
-      go (inr le) = let clash : Some (At at) ≡ None = sym place ∙ ready.joins.fresh b le in absurd (cc)
-
-  -- it lies as far in its block as before
-  pub asks_still : (r : Relation) (v : Value) (n : ℕ) → ValueIs w 65536 v n → Asks r c.store v → Asks r c2.store v
-  asks_still Equal (Place b o) n is ask = let size_is = same_size b is.0 is.1 in omega (arith, ask, size_is)
-  asks_still Unequal (Place b o) n is ask = let size_is = same_size b is.0 is.1 in omega (arith, ask, size_is)
-  asks_still Equal (Whole z) n is ask = tt
-  asks_still Equal Null n is ask = tt
-  asks_still Equal Opaque n is ask = tt
-  asks_still Equal (Cells xs) n is ask = tt
-  asks_still Equal NoValue n is ask = tt
-  asks_still Unequal (Whole z) n is ask = tt
-  asks_still Unequal Null n is ask = tt
-  asks_still Unequal Opaque n is ask = tt
-  asks_still Unequal (Cells xs) n is ask = tt
-  asks_still Unequal NoValue n is ask = tt
-  asks_still Less v n is ask = tt
-  asks_still NotLess v n is ask = tt
-  asks_still Greater v n is ask = tt
-  asks_still NotGreater v n is ask = tt
-
-  -- and has the same address
+  -- its address stays
   pub address_stays : (v : Value) (n : ℕ) → MayFit Valued (Pointer size) v → ValueIs w 65536 v n → ValueIs w2 65536 v n
   address_stays Null n fit is = is
   address_stays (Place b o) n fit is = (is.0, kept.grows b (At is.0) is.1, is.2)
@@ -93,8 +56,8 @@ module _ (g : World) (a : Active) (m : Manner) (op : BinaryOp) (r : Relation) (s
   all = left ++ (keep_code ++ (right ++ end))
 
   module _ (n weight p : ℕ) (k : List Item) (vs : List Value) (c : Scene) (w : Placing) (b : Banks) (u : State) (rest : RestOfSettled g a m s to n weight (p + length all) k vs c w b u)
-      (c1 : Scene) (w1 : Placing) (b1 : Banks) (s1 : State) (va : Value) (done1 : Done g a Valued (Pointer size) c w b u va c1 w1 b1 s1) (ask1 : Asks r c1.store va) (left1 : IsLeft m c u c1 s1) (ready1 : Ready g a pushed more_needs c1 w1 b1 s1) (bytes : IsBytes (waiting s1))
-      (c3 : Scene) (w3 : Placing) (b3 : Banks) (s3 : State) (vb : Value) (done3 : Done g a Valued (Pointer other) c1 w1 b1 (waiting s1) vb c3 w3 b3 s3) (ask3 : Asks r c3.store vb) (left3 : IsLeft lit c1 (waiting s1) c3 s3) where
+      (c1 : Scene) (w1 : Placing) (b1 : Banks) (s1 : State) (va : Value) (done1 : Done g a Valued (Pointer size) c w b u va c1 w1 b1 s1) (left1 : IsLeft m c u c1 s1) (ready1 : Ready g a pushed more_needs c1 w1 b1 s1) (bytes : IsBytes (waiting s1))
+      (c3 : Scene) (w3 : Placing) (b3 : Banks) (s3 : State) (vb : Value) (done3 : Done g a Valued (Pointer other) c1 w1 b1 (waiting s1) vb c3 w3 b3 s3) (left3 : IsLeft lit c1 (waiting s1) c3 s3) where
     abbrev at : ℕ
     at = p + length left + length keep_code + length right
 
@@ -126,26 +89,25 @@ module _ (g : World) (a : Active) (m : Manner) (op : BinaryOp) (r : Relation) (s
     followed i le seen has turned =
         let here : ValueIs w1 65536 va (ax_of s1) = word_is size w1 va s1 done1.fits done1.result in
         let still : ValueIs w3 65536 va (ax_of s1) = address_stays g a pushed more_needs size c1 c3 w1 w3 b1 b3 (waiting s1) s3 ready2 done3.kept va (ax_of s1) done1.fits here in
-        let ask : Asks r c3.store va = asks_still g a pushed more_needs size c1 c3 w1 w3 b1 b3 (waiting s1) s3 ready2 done3.kept r va (ax_of s1) here ask1 in
         let there : ValueIs w3 65536 vb (ax_of s3) = word_is other w3 vb s3 done3.fits done3.result in
-        pointers_follow g a m op r size other s to placed by_op pushed more_needs n weight (p + length all) at end ends k vs c w b u rest has c3 w3 b3 s3 ready3 kept3 left_both va vb (ax_of s1) (ax_of s3) (λ live. still) (λ live. there) ask ask3
+        pointers_follow g a m op r size other s to placed by_op pushed more_needs n weight (p + length all) at end ends k vs c w b u rest has c3 w3 b3 s3 ready3 kept3 left_both va vb (ax_of s1) (ax_of s3) (λ live. still) (λ live. there)
         (λ y e. whole_leads g a own to pushed more_needs placed labels (mirrored (relation_by s r)) false Ax (Word held_low held_high) c3 w3 b3 s3 (ax_of s3) (ax_of s1) y ready3 tt refl read (mirrored_tells (relation_by s r) false Ax (ax_of s1) (ax_of s3) ∙ e))
         seen turned (weight + 2598 + 2600 + m.over) (omega arith) i le
 
-  held_settles : DoesSo g a m (Asks r) size first needs pushed left → DoesSo g a lit (Asks r) other second more_needs pushed right → SettlesIn g a m s to (on_pointers op size other first second) (max needs (1 + more_needs)) pushed all
+  held_settles : DoesIn g a m Valued (Pointer size) first needs pushed left → DoesIn g a lit Valued (Pointer other) second more_needs pushed right → SettlesIn g a m s to (on_pointers op size other first second) (max needs (1 + more_needs)) pushed all
   held_settles before behind n weight p k vs c w b u seen has ready turns rest =
       let lines = lines_of g a in
       let has1 : HasAt lines (p + length left) (keep_code ++ (right ++ end)) = has_back lines p left (keep_code ++ (right ++ end)) has in
       let has2 : HasAt lines (p + length left + length keep_code) (right ++ end) = has_back lines (p + length left) keep_code (right ++ end) has1 in
       let ready0 : Ready g a pushed needs c w b u = record { joins = ready.joins; sp = ready.sp; room = omega (arith, ready.room); none_pushed = ready.none_pushed } in
-      before n weight p (second (Apply2 op (Pointer size) (Pointer other) ∷ k)) vs c w b u seen (has_front lines p left (keep_code ++ (right ++ end)) has) ready0 turns (λ j va c1 w1 b1 s1 seen1 lt done1 ask1 left1 turned1.
+      before n weight p (second (Apply2 op (Pointer size) (Pointer other) ∷ k)) vs c w b u seen (has_front lines p left (keep_code ++ (right ++ end)) has) ready0 turns (λ j va c1 w1 b1 s1 seen1 lt done1 left1 turned1.
       let ready1 : Ready g a pushed more_needs c1 w1 b1 s1 = ready_stays g a pushed (max needs (1 + more_needs)) more_needs c c1 w w1 b b1 u s1 (omega arith) ready done1.kept in
       follows_weaken g j (2 + (weight + 2598)) (weight + 2600 + m.over) (Running (second (Apply2 op (Pointer size) (Pointer other) ∷ k)) (va ∷ vs) c1) (place_in g a (p + length left)) s1 seen1 (omega arith)
       (keep_leads g a pushed more_needs c1 w1 b1 s1 placed ready1 j (weight + 2598) (p + length left) c1.turns (Running (second (Apply2 op (Pointer size) (Pointer other) ∷ k)) (va ∷ vs) c1) seen1 (has_front lines (p + length left) keep_code (right ++ end) has1) turned1 (λ s2 seen2 kept2 turned2.
       let bytes : IsBytes (waiting s1) = subst IsBytes kept2.0 kept2.1 in
       subst (λ z. Follows g j (weight + 2598) (Running (second (Apply2 op (Pointer size) (Pointer other) ∷ k)) (va ∷ vs) c1) (place_in g a (p + length left + length keep_code)) z seen2) (sym kept2.0)
-      (behind j (weight + 2598) (p + length left + length keep_code) (Apply2 op (Pointer size) (Pointer other) ∷ k) (va ∷ vs) c1 w1 b1 (waiting s1) seen2 (has_front lines (p + length left + length keep_code) right end has2) (ready_waiting g a pushed more_needs c1 w1 b1 s1 placed ready1 bytes) turned2 (λ i vb c3 w3 b3 s3 seen3 lt3 done3 ask3 left3 turned3.
-      followed n weight p k vs c w b u rest c1 w1 b1 s1 va done1 ask1 left1 ready1 bytes c3 w3 b3 s3 vb done3 ask3 left3 i (omega (arith, lt, lt3)) seen3 (has_back lines (p + length left + length keep_code) right end has2) turned3)))))
+      (behind j (weight + 2598) (p + length left + length keep_code) (Apply2 op (Pointer size) (Pointer other) ∷ k) (va ∷ vs) c1 w1 b1 (waiting s1) seen2 (has_front lines (p + length left + length keep_code) right end has2) (ready_waiting g a pushed more_needs c1 w1 b1 s1 placed ready1 bytes) turned2 (λ i vb c3 w3 b3 s3 seen3 lt3 done3 left3 turned3.
+      followed n weight p k vs c w b u rest c1 w1 b1 s1 va done1 left1 ready1 bytes c3 w3 b3 s3 vb done3 left3 i (omega (arith, lt, lt3)) seen3 (has_back lines (p + length left + length keep_code) right end has2) turned3)))))
 
 pub held_pointers_settle : HeldPointersSettle
 held_pointers_settle g a m op r size other operands right_type s to own needs more_needs pushed first second left right placed labels heavy by_op before behind = held_settles g a m op r size other s to own needs more_needs pushed first second left right placed labels heavy by_op before behind

@@ -44,19 +44,19 @@ use Rattle.c65_agree_state.proofs.Followed.{follows_weaken, steps_earn, ready_is
 use Rattle.c65_agree_state.proofs.Nodes.{has_front, has_back, ready_stays}
 use Rattle.c65_agree_state.proofs.Parts.{kept_goes_on}
 use Rattle.c65_agree_rows.proofs.Quiet.{nothing_follows}
-use Rattle.c65_agree_operate.specs.Manners.{Manner, IsLeft}
+use Rattle.c65_agree_operate.specs.Manners.{Manner, IsLeft, DoesIn}
 use Rattle.c65_agree_operate.proofs.Manners.{left_then, left_scene, left_heavy}
 use Rattle.c65_agree_operate.proofs.Routines.{IsPushed, push_leads, number_waits}
 use Rattle.c65_agree_operate.proofs.Stacked.{over_pushed}
 use Rattle.c65_agree_compare.specs.Branches.{RestOfSettled, SettlesIn}
 use Rattle.c65_agree_compare.proofs.Taken.{is_told, is_branch, branch_settles}
 use Rattle.c65_agree_compare.proofs.Stacked.{IsCompared, back_leads}
-use Rattle.c65_agree_order.specs.Pointers.{on_pointers, Asks, DoesSo}
+use Rattle.c65_agree_order.specs.Pointers.{on_pointers}
 use Rattle.c65_agree_order.specs.Laws.{StackedPointersSettle}
 use Rattle.c65_agree_order.proofs.Tells.{tells}
 use Rattle.c65_agree_order.proofs.PointerTells.{op_by, op_is, Told, pointers_tell}
 use Rattle.c65_agree_order.proofs.Pointers.{word_is}
-use Rattle.c65_agree_order.proofs.PointersHeld.{asks_still, address_stays}
+use Rattle.c65_agree_order.proofs.PointersHeld.{address_stays}
 
 -- ---- addresses as numbers without sign
 
@@ -118,8 +118,8 @@ module _ (g : World) (a : Active) (m : Manner) (r : Relation) (size other : ℕ)
 
   -- behind both sides, where the left one began at the state t and the right one at the state s2
   module _ (n weight p : ℕ) (k : List Item) (vs : List Value) (c : Scene) (w : Placing) (b : Banks) (t : State) (has : HasAt (lines_of g a) p all) (rest : RestOfSettled g a m s to n weight (p + length all) k vs c w b t)
-      (c1 : Scene) (w1 : Placing) (b1 : Banks) (s1 : State) (va : Value) (done1 : Done g a Valued (Pointer size) c w b t va c1 w1 b1 s1) (ask1 : Asks r c1.store va) (left1 : IsLeft m c t c1 s1) (s2 : State) (push2 : IsPushed g a pushed more_needs c1 w1 b1 Ax s1 s2)
-      (c3 : Scene) (w3 : Placing) (b3 : Banks) (s3 : State) (vb : Value) (done3 : Done g a Valued (Pointer other) c1 w1 b1 s2 vb c3 w3 b3 s3) (ask3 : Asks r c3.store vb) (left3 : IsLeft m c1 s2 c3 s3) where
+      (c1 : Scene) (w1 : Placing) (b1 : Banks) (s1 : State) (va : Value) (done1 : Done g a Valued (Pointer size) c w b t va c1 w1 b1 s1) (left1 : IsLeft m c t c1 s1) (s2 : State) (push2 : IsPushed g a pushed more_needs c1 w1 b1 Ax s1 s2)
+      (c3 : Scene) (w3 : Placing) (b3 : Banks) (s3 : State) (vb : Value) (done3 : Done g a Valued (Pointer other) c1 w1 b1 s2 vb c3 w3 b3 s3) (left3 : IsLeft m c1 s2 c3 s3) where
     abbrev at : ℕ
     at = p + length left + length push + length right
 
@@ -153,9 +153,6 @@ module _ (g : World) (a : Active) (m : Manner) (r : Relation) (size other : ℕ)
     still : ValueIs w3 65536 va (ax_of s1)
     still = address_stays g a (pushed + 2) more_needs size c1 c3 w1 w3 b1 b3 s2 s3 push2.ready done3.kept va (ax_of s1) done1.fits here
 
-    ask : Asks r c3.store va
-    ask = asks_still g a (pushed + 2) more_needs size c1 c3 w1 w3 b1 b3 s2 s3 push2.ready done3.kept r va (ax_of s1) here ask1
-
     left_few : ax_of s1 < 65536
     left_few = omega (arith, done1.kept.joins.bytes.a, done1.kept.joins.bytes.x)
 
@@ -180,7 +177,7 @@ module _ (g : World) (a : Active) (m : Manner) (r : Relation) (size other : ℕ)
         → Follows g o more_weight (go_on x k vs c3) (place_in g a at) s3 seen
     stepped o lt seen there turned (Err why) e = nothing_follows g why o more_weight (place_in g a at) s3 seen
     stepped o lt seen there turned (Ok x) e =
-        of_pointers o lt seen there turned x (pointers_tell c3.store w3 s3.mem b3 ready3.joins.stands r size va vb (ax_of s1) (ax_of s3) x (λ live. still) (λ live. word_is other w3 vb s3 done3.fits done3.result) ask ask3 e)
+        of_pointers o lt seen there turned x (pointers_tell c3.store w3 s3.mem b3 ready3.joins.stands r size va vb (ax_of s1) (ax_of s3) x (λ live. still) (λ live. word_is other w3 vb s3 done3.fits done3.result) e)
 
     followed : (j : ℕ) → j ≤ n → (seen : Seen) → HasAt (lines_of g a) at end → HasTurns g c3.turns (place_in g a at) seen → Follows g j (weight + 2344 + 2600 + m.over) (Running (Apply2 op (Pointer size) (Pointer other) ∷ k) (vb ∷ va ∷ vs) c3) (place_in g a at) s3 seen
     followed j le seen there turned =
@@ -191,7 +188,7 @@ module _ (g : World) (a : Active) (m : Manner) (r : Relation) (size other : ℕ)
   two_wait : (c : Scene) (w : Placing) (b : Banks) (t : State) → Ready g a (pushed + 2) more_needs c w b t → more pushed (waiting Ax) ≡ pushed + 2
   two_wait c w b t ready = mod-eq_of_lt (omega (arith, ready.sp, ready.joins.top))
 
-  settles : DoesSo g a m (Asks r) size first needs pushed left → DoesSo g a m (Asks r) other second more_needs (more pushed (waiting Ax)) right
+  settles : DoesIn g a m Valued (Pointer size) first needs pushed left → DoesIn g a m Valued (Pointer other) second more_needs (more pushed (waiting Ax)) right
       → SettlesIn g a m s to (on_pointers op size other first second) (max needs (1 + more_needs)) pushed all
   settles before behind n weight p k vs c w b t seen has ready turns rest =
       let lines = lines_of g a in
@@ -199,13 +196,13 @@ module _ (g : World) (a : Active) (m : Manner) (r : Relation) (size other : ℕ)
       let has1 : HasAt lines (p + length left) (push ++ (right ++ end)) = has_back lines p left (push ++ (right ++ end)) has0 in
       let has2 : HasAt lines (p + length left + length push) (right ++ end) = has_back lines (p + length left) push (right ++ end) has1 in
       let ready0 : Ready g a pushed needs c w b t = record { joins = ready.joins; sp = ready.sp; room = omega (arith, ready.room); none_pushed = ready.none_pushed } in
-      before n weight p (second (Apply2 op (Pointer size) (Pointer other) ∷ k)) vs c w b t seen (has_front lines p left (push ++ (right ++ end)) has0) ready0 turns (λ j va c1 w1 b1 s1 seen1 lt done1 ask1 left1 turned1.
+      before n weight p (second (Apply2 op (Pointer size) (Pointer other) ∷ k)) vs c w b t seen (has_front lines p left (push ++ (right ++ end)) has0) ready0 turns (λ j va c1 w1 b1 s1 seen1 lt done1 left1 turned1.
       let ready1 : Ready g a pushed (1 + more_needs) c1 w1 b1 s1 = ready_stays g a pushed (max needs (1 + more_needs)) (1 + more_needs) c c1 w w1 b b1 t s1 (omega arith) ready done1.kept in
       follows_weaken g j (256 + (weight + 2344)) (weight + 2600 + m.over) (Running (second (Apply2 op (Pointer size) (Pointer other) ∷ k)) (va ∷ vs) c1) (place_in g a (p + length left)) s1 seen1 (omega arith)
       (push_leads g a pushed more_needs c1 w1 b1 s1 placed ready1 Ax j (weight + 2344) (p + length left) c1.turns (Running (second (Apply2 op (Pointer size) (Pointer other) ∷ k)) (va ∷ vs) c1) seen1 (has_front lines (p + length left) push (right ++ end) has1) turned1 (λ s2 seen2 push2 turned2.
       let ready2 : Ready g a (more pushed (waiting Ax)) more_needs c1 w1 b1 s2 = subst (λ q. Ready g a q more_needs c1 w1 b1 s2) (sym (two_wait c1 w1 b1 s2 push2.ready)) push2.ready in
-      behind j (weight + 2344) (p + length left + length push) (Apply2 op (Pointer size) (Pointer other) ∷ k) (va ∷ vs) c1 w1 b1 s2 seen2 (has_front lines (p + length left + length push) right end has2) ready2 turned2 (λ i vb c3 w3 b3 s3 seen3 lt3 done3 ask3 left3 turned3.
-      followed n weight p k vs c w b t has rest c1 w1 b1 s1 va done1 ask1 left1 s2 push2 c3 w3 b3 s3 vb done3 ask3 left3 i (omega (arith, lt, lt3)) seen3 (has_back lines (p + length left + length push) right end has2) turned3))))
+      behind j (weight + 2344) (p + length left + length push) (Apply2 op (Pointer size) (Pointer other) ∷ k) (va ∷ vs) c1 w1 b1 s2 seen2 (has_front lines (p + length left + length push) right end has2) ready2 turned2 (λ i vb c3 w3 b3 s3 seen3 lt3 done3 left3 turned3.
+      followed n weight p k vs c w b t has rest c1 w1 b1 s1 va done1 left1 s2 push2 c3 w3 b3 s3 vb done3 left3 i (omega (arith, lt, lt3)) seen3 (has_back lines (p + length left + length push) right end has2) turned3))))
 
   -- the generator's lines are these
   lines_are : (count : ℕ) (right_type : IntType) → all ≡ comparison_by how.Stacked op (Pointers count) right_type s to own left right

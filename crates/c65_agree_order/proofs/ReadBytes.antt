@@ -19,7 +19,7 @@ use Rattle.c65_genexpr.specs.Operands.{residue_of}
 use Rattle.c65_agree_store.specs.Stands.{Placing}
 use Rattle.c65_agree_state.specs.World.{World}
 use Rattle.c65_agree_state.proofs.Followed.{follows_weaken, steps_earn, ready_is_calm}
-use Rattle.c65_agree_load.proofs.Objects.{may_fit}
+use Rattle.c65_agree_put.proofs.Fits.{may_fit}
 use Rattle.c65_agree_direct.specs.Operands.{byte_in, MayRead, register_bytes, HasBytes}
 use Rattle.c65_agree_order.specs.Bytes.{ByteIs}
 use Rattle.c65_agree_order.specs.Laws.{CharsAreRead, ReadsAreConverted, ConstantsAreRead, CharsAreReadBehind, ReadsBehindAreConverted, ConstantsAreReadBehind}
@@ -52,11 +52,11 @@ byte_at g s w u width d x NoValue e h = ((h.bytes 0 x (some_bytes width) e).0, t
 
 pub chars_are_read : CharsAreRead
 chars_are_read g a pushed work d x e reads needs n weight k vs c w b p s seen ready turned goes =
-    reads needs n weight k vs c w b p s seen ready turned (λ j v lt fit bytes. goes j v lt fit (char_is_byte v (may_fit (Number I.UChar) v fit)) (byte_at g c.store w s Ax d x v e bytes))
+    reads needs n weight k vs c w b p s seen ready turned (λ j v lt fit bytes. goes j v lt fit (char_is_byte v (may_fit (Number I.UChar) v tt fit)) (byte_at g c.store w s Ax d x v e bytes))
 
 pub chars_are_read_behind : CharsAreReadBehind
 chars_are_read_behind g a pure pushed work d x e reads needs n weight k vs c w b p s seen ready turned goes =
-    reads needs n weight k vs c w b p s seen ready turned (λ j v lt fit told. goes j v lt fit (char_is_byte v (may_fit (Number I.UChar) v fit)) (λ more_needs c2 w2 b2 u scene grows ready2. byte_at g c2.store w2 u Ax d x v e (told more_needs c2 w2 b2 u scene grows ready2)))
+    reads needs n weight k vs c w b p s seen ready turned (λ j v lt fit told. goes j v lt fit (char_is_byte v (may_fit (Number I.UChar) v tt fit)) (λ more_needs c2 w2 b2 u scene grows ready2. byte_at g c2.store w2 u Ax d x v e (told more_needs c2 w2 b2 u scene grows ready2)))
 
 -- ---- of a converted value
 
@@ -65,7 +65,7 @@ reads_are_converted g a pushed r t work x keeps reads needs n weight k vs c w b 
     reads needs n weight (Change (Number t) ∷ k) vs c w b p s seen ready turned (λ j v lt fit byte there.
     steps_earn g j (weight + 4000) (Change (Number t)) k (v ∷ vs) c p s seen (ready_is_calm g a pushed needs c w b s ready).calm ready.joins.output ready.joins.ended (omega (arith, turned)) (λ o less.
     step_goes g o (weight + 4000 + 4000) p s seen k vs c (converted (Number t) v) (λ y e.
-    let fit2 = may_fit (Number r) v fit in
+    let fit2 = may_fit (Number r) v tt fit in
     follows_weaken g o (weight + 4000) (weight + 4000 + 4000) (Running k (y ∷ vs) c) p s seen (omega arith)
     (goes o y (omega (arith, lt, less)) (conversions_fit (Number t) v y tt e) (converted_byte r t v y keeps fit2 byte e) (there.0, converted_low r t v y (byte_in g s x) fit2 there.1 e)))))
 
@@ -74,7 +74,7 @@ reads_behind_are_converted g a pure pushed r t work x keeps reads needs n weight
     reads needs n weight (Change (Number t) ∷ k) vs c w b p s seen ready turned (λ j v lt fit byte told.
     steps_earn g j (weight + 4000) (Change (Number t)) k (v ∷ vs) c p s seen (ready_is_calm g a pushed needs c w b s ready).calm ready.joins.output ready.joins.ended (omega (arith, turned)) (λ o less.
     step_goes g o (weight + 4000 + 4000) p s seen k vs c (converted (Number t) v) (λ y e.
-    let fit2 = may_fit (Number r) v fit in
+    let fit2 = may_fit (Number r) v tt fit in
     follows_weaken g o (weight + 4000) (weight + 4000 + 4000) (Running k (y ∷ vs) c) p s seen (omega arith)
     (goes o y (omega (arith, lt, less)) (conversions_fit (Number t) v y tt e) (converted_byte r t v y keeps fit2 byte e) (λ more_needs c2 w2 b2 u scene grows ready2.
     let there = told more_needs c2 w2 b2 u scene grows ready2 in

@@ -33,7 +33,7 @@ use Rattle.c65_agree_state.specs.Exprs.{Ready, Valued, ResultIs, Kept, Done}
 use Rattle.c65_agree_state.proofs.Followed.{follows_weaken}
 use Rattle.c65_agree_state.proofs.Nodes.{has_front, has_back, ready_stays}
 use Rattle.c65_agree_state.proofs.Parts.{kept_goes_on}
-use Rattle.c65_agree_load.proofs.Objects.{may_fit}
+use Rattle.c65_agree_put.proofs.Fits.{may_fit}
 use Rattle.c65_agree_direct.specs.Operands.{HasBytes}
 use Rattle.c65_agree_direct.specs.Laws.{IsReadInPlace}
 use Rattle.c65_agree_operate.specs.Manners.{Manner, IsHeld, IsLeft, DoesIn}
@@ -104,7 +104,7 @@ module _ (g : World) (a : Active) (m : Manner) (pure : Bool) (op : BinaryOp) (r 
       (behind j weight p (Apply2 op (Number t) (Number t) ∷ k) (va ∷ vs) c w b u seen (has_front (lines_of g a) p right back_lines has) ready1 turns (λ i vb c3 w3 b3 s3 seen3 lt3 done3 left3 turned3.
       let ready3 : Ready g a pushed more_needs c3 w3 b3 s3 = ready_stays g a pushed more_needs more_needs c c3 w w3 b b3 u s3 (omega arith) ready1 done3.kept in
       let ends : p + length right + length back_lines ≡ p + length (right ++ back_lines) = omega (arith, length-append right back_lines) in
-      settled_follows g a m op t s to placed (order_compares op r by_op) pushed more_needs n weight (p + length (right ++ back_lines)) (p + length right) back_lines ends k vs c w b u rest (has_back (lines_of g a) p right back_lines has) c3 w3 b3 s3 ready3 done3.kept (less_left m pure c c3 u s3 wanted left3) va vb (may_fit (Number t) va fit) done3.fits
+      settled_follows g a m op t s to placed (order_compares op r by_op) pushed more_needs n weight (p + length (right ++ back_lines)) (p + length right) back_lines ends k vs c w b u rest (has_back (lines_of g a) p right back_lines has) c3 w3 b3 s3 ready3 done3.kept (less_left m pure c c3 u s3 wanted left3) va vb (may_fit (Number t) va tt fit) done3.fits
       (λ x z y e f fits1 fits2 gives.
       let bytes : HasBytes g c3.store w3 s3 (width_of t) d (Whole x) = subst (HasBytes g c3.store w3 s3 (width_of t) d) e (told more_needs c3 w3 b3 s3 left3.scene done3.kept.grows ready3) in
       let result3 : primary_of (width_of t) s3 ≡ word_of t z = subst (λ v. ResultIs Valued w3 (width_of t) v s3) f done3.result in

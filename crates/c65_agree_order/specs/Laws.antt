@@ -50,7 +50,7 @@ use Rattle.c65_agree_operate_bytes.specs.Laws.{IsReadBehind}
 use Rattle.c65_agree_compare.specs.Branches.{SettlesIn}
 use Rattle.c65_agree_compare.specs.Laws.{IsOrder}
 use Rattle.c65_agree_order.specs.Bytes.{Any, LowsIn, BytesIn, IsByteRead, IsByteBehind}
-use Rattle.c65_agree_order.specs.Pointers.{on_pointers, Asks, DoesSo, IsReadSo, IsReadBehindSo}
+use Rattle.c65_agree_order.specs.Pointers.{on_pointers}
 
 -- ---- words
 
@@ -229,42 +229,35 @@ RaisedBytesBehindSettle = (g : World) (a : Active) (m : Manner) (pure : Bool) (o
 
 -- ---- pointers
 
--- an order asks nothing of the places: of what does a pointer's work, or is read as one
-abbrev pub OrdersAskNothing : Type 0
-OrdersAskNothing = (g : World) (a : Active) (m : Manner) (r : Relation) (size needs pushed : ℕ) (work : List Item → List Item) (lines : List Line) (d : Direct) (pure : Bool) → IsOrder r
-    → (DoesIn g a m Valued (Pointer size) work needs pushed lines → DoesSo g a m (Asks r) size work needs pushed lines)
-    × (IsReadInPlace g a pushed (Pointer size) work d → IsReadSo g a (Asks r) pushed size work d)
-    × (IsReadBehind g a pure pushed (Pointer size) work d → IsReadBehindSo g a pure (Asks r) pushed size work d)
-
 -- the left pointer is in AX, and the right one is read where it lies
 abbrev pub PointersSettle : Type 0
 PointersSettle = (g : World) (a : Active) (m : Manner) (op : BinaryOp) (r : Relation) (size other : ℕ) (d : Direct) (low high : OperandByte) (operands : Operands) (right_type : IntType) (s : Bool) (to own needs more_needs pushed : ℕ) (first second : List Item → List Item) (left right : List Line)
     → IsPlacement g.code g.place → IsPlaced (lines_of g a) → relation_of op ≡ Some r → sides_of Ax d ≡ Some (Word low high)
-    → DoesSo g a m (Asks r) size first needs pushed left → IsReadSo g a (Asks r) pushed other second d
+    → DoesIn g a m Valued (Pointer size) first needs pushed left → IsReadInPlace g a pushed (Pointer other) second d
     → SettlesIn g a m s to (on_pointers op size other first second) (max needs (1 + more_needs)) pushed (comparison_by (Whole Left (relation_by s r) false (Word low high)) op operands right_type s to own left right)
 
 -- the right pointer is in AX, and the left one is read behind its lines
 abbrev pub PointersBehindSettle : Type 0
 PointersBehindSettle = (g : World) (a : Active) (m : Manner) (pure : Bool) (op : BinaryOp) (r : Relation) (size other : ℕ) (d : Direct) (low high : OperandByte) (operands : Operands) (right_type : IntType) (s : Bool) (to own needs more_needs pushed : ℕ) (first second : List Item → List Item) (left right : List Line)
     → IsPlacement g.code g.place → IsPlaced (lines_of g a) → relation_of op ≡ Some r → sides_of Ax d ≡ Some (Word low high)
-    → (m.pure ≡ true → pure ≡ true) → IsReadBehindSo g a pure (Asks r) pushed size first d
-    → DoesSo g a (record m { pure = pure }) (Asks r) other second more_needs pushed right
+    → (m.pure ≡ true → pure ≡ true) → IsReadBehind g a pure pushed (Pointer size) first d
+    → DoesIn g a (record m { pure = pure }) Valued (Pointer other) second more_needs pushed right
     → SettlesIn g a m s to (on_pointers op size other first second) (max needs (1 + more_needs)) pushed (comparison_by (Whole Right (mirrored (relation_by s r)) false (Word low high)) op operands right_type s to own left right)
 
 -- the left pointer waits in ptr2 while the right one comes, whose lines are light
 abbrev pub HeldPointersSettle : Type 0
 HeldPointersSettle = (g : World) (a : Active) (m : Manner) (op : BinaryOp) (r : Relation) (size other : ℕ) (operands : Operands) (right_type : IntType) (s : Bool) (to own needs more_needs pushed : ℕ) (first second : List Item → List Item) (left right : List Line)
     → IsPlacement g.code g.place → IsPlaced (lines_of g a) → m.light ≡ false → relation_of op ≡ Some r
-    → DoesSo g a m (Asks r) size first needs pushed left
-    → DoesSo g a (record m { light = true }) (Asks r) other second more_needs pushed right
+    → DoesIn g a m Valued (Pointer size) first needs pushed left
+    → DoesIn g a (record m { light = true }) Valued (Pointer other) second more_needs pushed right
     → SettlesIn g a m s to (on_pointers op size other first second) (max needs (1 + more_needs)) pushed (comparison_by (Held (mirrored (relation_by s r)) false) op operands right_type s to own left right)
 
 -- by a routine: the left pointer waits on the software stack, and the right one is in AX
 abbrev pub StackedPointersSettle : Type 0
 StackedPointersSettle = (g : World) (a : Active) (m : Manner) (op : BinaryOp) (r : Relation) (size other count : ℕ) (right_type : IntType) (s : Bool) (to own needs more_needs pushed : ℕ) (first second : List Item → List Item) (left right : List Line)
     → IsPlacement g.code g.place → m.light ≡ false → m.over ≤ 1000 → relation_of op ≡ Some r
-    → DoesSo g a m (Asks r) size first needs pushed left
-    → DoesSo g a m (Asks r) other second more_needs (more pushed (waiting Ax)) right
+    → DoesIn g a m Valued (Pointer size) first needs pushed left
+    → DoesIn g a m Valued (Pointer other) second more_needs (more pushed (waiting Ax)) right
     → SettlesIn g a m s to (on_pointers op size other first second) (max needs (1 + more_needs)) pushed (comparison_by Stacked op (Pointers count) right_type s to own left right)
 
 -- an order beside a null pointer has no meaning, whatever its lines are

@@ -1,5 +1,5 @@
 // Laws of the lines of comparisons of numbers, each the contract of a function that does nothing.
-ghost use Rattle.c65_agree_order.specs.Laws.{BytesBehindSettle, BytesSettle, CharsAreBytes, CharsAreRead, CharsAreReadBehind, ConstantsAreRead, ConstantsAreReadBehind, ConversionsKeepBytes, ConversionsKeepLows, HeldBytesSettle, HeldPointersSettle, HeldWordsSettle, LongsBehindSettle, LongsSettle, LowConversionLinesAre, LowOperandsDo, LowOperatorLinesAre, NullOrdersBehindSettle, NullOrdersSettle, OrdersAskNothing, PointersBehindSettle, PointersSettle, RaisedBytesBehindSettle, RaisedBytesSettle, RaisedLongsBehindSettle, RaisedLongsSettle, RaisedWordsBehindSettle, RaisedWordsSettle, ReadBytesCome, ReadsAreConverted, ReadsBehindAreConverted, StackedPointersSettle, ValuesAreLow, WordsBehindSettle, WordsSettle};
+ghost use Rattle.c65_agree_order.specs.Laws.{BytesBehindSettle, BytesSettle, CharsAreBytes, CharsAreRead, CharsAreReadBehind, ConstantsAreRead, ConstantsAreReadBehind, ConversionsKeepBytes, ConversionsKeepLows, HeldBytesSettle, HeldPointersSettle, HeldWordsSettle, LongsBehindSettle, LongsSettle, LowConversionLinesAre, LowOperandsDo, LowOperatorLinesAre, NullOrdersBehindSettle, NullOrdersSettle, PointersBehindSettle, PointersSettle, RaisedBytesBehindSettle, RaisedBytesSettle, RaisedLongsBehindSettle, RaisedLongsSettle, RaisedWordsBehindSettle, RaisedWordsSettle, ReadBytesCome, ReadsAreConverted, ReadsBehindAreConverted, StackedPointersSettle, ValuesAreLow, WordsBehindSettle, WordsSettle};
 
 /// The lines of a comparison of AX with a word that is read where it lies test its value, whatever the relation.
 pub fn words_settle()
@@ -129,11 +129,6 @@ pub fn raised_bytes_settle()
 /// So it may where A is the right side.
 pub fn raised_bytes_behind_settle()
     ensures { RaisedBytesBehindSettle }
-{}
-
-/// An order asks nothing of the places that its pointers name.
-pub fn orders_ask_nothing()
-    ensures { OrdersAskNothing }
 {}
 
 /// The lines of a comparison of a pointer in AX with one that is read where it lies test its value.

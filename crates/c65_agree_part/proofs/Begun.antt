@@ -38,6 +38,7 @@ use Rattle.c65_agree_rows.proofs.Quiet.{nothing_follows}
 use Rattle.c65_agree_put.specs.Puts.{MayPut, with_put, AreTaken}
 use Rattle.c65_agree_put.specs.Laws.{IsWrite, IsScalar}
 use Rattle.c65_agree_put.proofs.Values.{writes_are_puts, values_are_laid}
+use Rattle.c65_agree_put.proofs.Fits.{fits_or_none}
 use Rattle.c65_agree_assign.specs.Places.{stored_spot, bytes_in, MayHold, extent_in, kind_in}
 use Rattle.c65_agree_assign.proofs.Stored.{numbers_are_stored}
 use Rattle.c65_agree_part.specs.Parts.{place_of, IsSettable}
@@ -69,15 +70,6 @@ size_is (Number I.ULong) scalar = refl
 size_is (Pointer _) scalar = refl
 size_is (Field t low width) scalar = absurd scalar
 size_is (Area _) scalar = absurd scalar
-
--- where a call gave no value nothing is defined
-fits_or_none : (f : Shape) (v : Value) → MayFit Valued f v → Fits f v ⊎ (v ≡ NoValue)
-fits_or_none f (Whole z) h = inl h
-fits_or_none f Null h = inl h
-fits_or_none f (values.Place b o) h = inl h
-fits_or_none f Opaque h = inl h
-fits_or_none f (Cells xs) h = inl h
-fits_or_none f NoValue h = inr refl
 
 none_held : (s : objects.Spot) → held (place_of s) ≡ 0
 none_held (spots.Bank bank) = refl
@@ -188,7 +180,7 @@ module _ (g : World) (a : Active) (needs i o : ℕ) (f : Shape) (c : Scene) (w :
   is_named behind fits j lt None e = nothing_follows g _ j (weight + 4000) (place_in g a p) t seen
   is_named behind fits j lt (Some b) e =
       let on : o ≡ 0 + o = omega arith in
-      subst (λ y. Follows g j (weight + 4000) (with_scene (put true f c (values.Place b y) v) work vs) (place_in g a p) t seen) on (is_put behind (fits_or_none f v fits) j b lt e)
+      subst (λ y. Follows g j (weight + 4000) (with_scene (put true f c (values.Place b y) v) work vs) (place_in g a p) t seen) on (is_put behind (fits_or_none f v scalar fits) j b lt e)
 
   pub begun : MayFit Valued f v → Behind → Follows g n weight (Running (Init i o f ∷ work) (v ∷ vs) c) (place_in g a p) t seen
   begun fits behind =

@@ -10,7 +10,7 @@ use Rattle.c65_ctype.specs.Views.{types_of}
 use Rattle.c65_csem.specs.declared.items.Parts.{Parts}
 use Rattle.c65_csem.specs.Trees.{Typed, set_part, clear, ObjectTy}
 use Rattle.c65_csem.specs.Views.{object_of, unit_of}
-use Rattle.c65_csem.specs.Places.{is_place, is_tag, is_registered}
+use Rattle.c65_csem.specs.Places.{is_place, is_tag}
 use Rattle.c65_csem_need.specs.Needs.{need}
 use Rattle.c65_meaning.specs.Store as values
 use Rattle.c65_meaning.specs.Store.{Value, Null, Place, Opaque, Cells, NoValue, Shape, Number, Field, Pointer, Area, size_in, new_cells}
@@ -34,9 +34,10 @@ use Rattle.c65_genstmt.specs.Objects.{object_bytes, spot_of, stored_code}
 use Rattle.c65_agree_store.specs.Stands.{Placing, Banks}
 use Rattle.c65_agree_state.specs.World.{World, unit_in, Active, lines_of, place_in, IsPlaced, HasTurns}
 use Rattle.c65_agree_state.specs.Follows.{Follows}
-use Rattle.c65_agree_state.specs.Exprs.{Kept, Yield, Registered, Placed, Valued, ResultIs, width_in, Does as LinesDo, yield_of, shape_in}
+use Rattle.c65_agree_state.specs.Exprs.{Kept, Yield, Registered, Placed, Valued, ResultIs, width_in, Does as LinesDo, is_area, yield_of, shape_in}
 use Rattle.c65_agree_state.proofs.Followed.{follows_weaken}
 use Rattle.c65_agree_state.proofs.Nodes.{has_front, has_back}
+use Rattle.c65_agree_state.proofs.Yields.{value_yields}
 use Rattle.c65_agree_start.proofs.Sizes.{bytes_are_size}
 use Rattle.c65_agree_put.specs.Puts.{with_put, AreTaken}
 use Rattle.c65_agree_put.specs.Laws.{IsScalar}
@@ -164,7 +165,7 @@ module _ (x : Calling) (scope : List ℕ) (at next fresh i o : ℕ) (w : Ways) (
 
   does : LinesDo x.world x.active Valued f (plan (unit_in x.world) e) (need e) 0 E
   does =
-      let yields : yield_of (unit_in x.world) e ≡ Valued = ap (λ s. if s then (if is_registered (unit_in x.world) e then Registered else Placed) else Valued) value in
+      let yields : yield_of (unit_in x.world) e ≡ Valued = value_yields (unit_in x.world) e value (no_tag (unit_in x.world).types (bare e) scalar) in
       subst (λ y. LinesDo x.world x.active y f (plan (unit_in x.world) e) (need e) 0 E) yields (has.does 0 fresh)
 
   done : IsDone x scope (plan_stmt (unit_in x.world) at (set_part i o e)) w (E ++ S)
@@ -236,12 +237,13 @@ parts_are_set x scope at next fresh i o w e placed once parts can (inr is) = are
 pub values_have_addresses : ValuesHaveAddresses
 values_have_addresses x e has plain = record { yield = yield_of (unit_in x.world) e; memory = memory; does = λ fresh. has.does 0 fresh; need = has.need }
   where
-    by : (b : Bool) → (if b then Placed else Valued) ≡ Registered → ⊥
-    by true h = cc
-    by false h = cc
+    by : (b area : Bool) → (if b then Placed else if area then Placed else Valued) ≡ Registered → ⊥
+    by true area h = cc
+    by false true h = cc
+    by false false h = cc
 
     memory : yield_of (unit_in x.world) e ≡ Registered → ⊥
-    memory f = by (is_place e) (sym (ap (λ r. if is_place e then (if r then Registered else Placed) else Valued) plain) ∙ f)
+    memory f = by (is_place e) (is_area e) (sym (ap (λ r. if is_place e then (if r then Registered else Placed) else if is_area e then Placed else Valued) plain) ∙ f)
 
 -- ---- objects that are cleared
 

@@ -1,3 +1,4 @@
 pub mod Puts
 pub mod Values
 pub mod Stores
+pub mod Fits

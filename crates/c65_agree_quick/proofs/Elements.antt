@@ -5,31 +5,25 @@ use Rattle.std.proofs.lemmas.Bool.{eqb-true}
 use Rattle.c65_mach.specs.declared.rows.Op.TheVariants.{Asl, Lda, Ldx, Stx, Tax}
 use Rattle.c65_meaning.specs.State.{Scene}
 use Rattle.c65_code.specs.declared.line.Line.{Line}
-use Rattle.c65_code.specs.declared.routine.Routine.TheVariants.{Tos}
 use Rattle.c65_code.specs.declared.routine.TosOp.TheVariants as tos
 use Rattle.c65_code.specs.declared.routine.Width.TheVariants.{Ax}
-use Rattle.c65_code.specs.LineState.{State, sp_of, ax_of, IsBytes}
-use Rattle.c65_code.specs.Numbers.{tos_result}
+use Rattle.c65_code.specs.LineState.{State, ax_of, IsBytes}
 use Rattle.c65_code.specs.Placement.{IsPlacement}
-use Rattle.c65_code.specs.Rows.{number_at}
-use Rattle.c65_genwide.specs.Lines.{value, call}
+use Rattle.c65_genwide.specs.Lines.{value}
 use Rattle.c65_genload.specs.Words.{tmp1, implied, shift_a, zero_page}
-use Rattle.c65_genload.specs.Numbers.{first, second, number_code, by_code, scale_code}
-use Rattle.c65_genload.specs.Conversions.{push_code}
+use Rattle.c65_genload.specs.Numbers.{by_code, scale_code}
 use Rattle.c65_genshift.specs.Shifts.{calls_code, left_turns, left_bits_code, left_byte_code}
 use Rattle.c65_genshift.specs.Quick.{power_of, elements_by}
 use Rattle.c65_agree_store.specs.Stands.{Placing, Banks}
 use Rattle.c65_agree_state.specs.World.{World, Active}
 use Rattle.c65_agree_state.specs.Exprs.{Ready}
-use Rattle.c65_agree_rows.specs.Laws.{IsReadyPopped}
 use Rattle.c65_agree_frame.specs.Leads.{Leads}
-use Rattle.c65_agree_frame.proofs.Leads.{none_leads, after_lines, leads_then, leads_as}
+use Rattle.c65_agree_frame.proofs.Leads.{none_leads, after_lines, leads_as}
 use Rattle.c65_agree_load.proofs.Kept.{is_on}
-use Rattle.c65_agree_operate.proofs.Routines.{IsPushed, push_leads, number_waits, operator_leads}
-use Rattle.c65_agree_operate.proofs.Stacked.{over_pushed}
-use Rattle.c65_agree_quick.specs.Laws.{IsNow, ElementsAreScaled}
+use Rattle.c65_agree_quick.specs.Laws.{IsNow, HasTwo, ElementsAreScaled}
 use Rattle.c65_agree_quick.proofs.Powers.{moved, iterated, steps_move}
-use Rattle.c65_agree_quick.proofs.Scratch.{AreScratch, scratch_append, after_append, scratch_leads, still_now, ready_now}
+use Rattle.c65_agree_quick.proofs.Scratch.{AreScratch, scratch_append, after_append, scratch_leads, still_now}
+use Rattle.c65_agree_quick.proofs.Room.{by_number}
 use Rattle.c65_agree_quick.proofs.Once.{word_small, calls_lead}
 use Rattle.c65_agree_quick.proofs.Turns.{pair, left_carry}
 use Rattle.c65_agree_quick.proofs.Bytes.{left_byte_scratch, left_byte_word}
@@ -65,55 +59,29 @@ turns_length (suc n) = omega (arith, turns_length n)
 bits_short : (n : ℕ) → n < 8 → length (left_bits_code n) ≤ 20
 bits_short n few = omega (arith, few, turns_length n, length-append (left_turns n) last)
 
--- ---- the routine of products
+-- ---- elements
 
-module _ (g : World) (a : Active) (pushed needs : ℕ) (c : Scene) (w : Placing) (b : Banks) (t : State) (placed : IsPlacement g.code g.place) (ready : Ready g a pushed (1 + needs) c w b t) (size : ℕ) (small : size < 65536) where
+module _ (g : World) (a : Active) (pushed needs : ℕ) (c : Scene) (w : Placing) (b : Banks) (t : State) (placed : IsPlacement g.code g.place) (ready : Ready g a pushed needs c w b t) (two : HasTwo a needs c t) (size : ℕ) (small : size < 65536) where
   abbrev Scaled : State → Type 0
   Scaled = IsNow g a c w b Ax ((ax_of t * size) % 65536) t
 
   are_bytes : IsBytes t
-  are_bytes = (is_on g a pushed (1 + needs) c w b t placed ready).stacks.calm.bytes
-
-  size_is : first size + 256 * second size ≡ size
-  size_is = omega (arith, small)
-
-  size_scratch : AreScratch (number_code Ax size)
-  size_scratch = (omega arith, (omega arith, tt))
-
-  -- behind the number of elements, which waits
-  module _ (u : State) (push : IsPushed g a pushed needs c w b Ax t u) where
-    multiplied : (x : State) → IsNow g a c w b Ax size u x → Leads g a (call (Tos tos.Mul Ax) ∷ []) 2048 x Scaled
-    multiplied x now =
-        let v : ℕ = (ax_of t * size) % 65536 in
-        let ready2 : Ready g a (pushed + 2) needs c w b x = ready_now g a (pushed + 2) needs c w b Ax placed size u x push.ready now in
-        let waits : number_at Ax x.mem (sp_of x) ≡ ax_of t = number_waits g a pushed needs c c w w b b u x Ax push.ready now.kept ∙ push.word in
-        let given : tos_result tos.Mul Ax (number_at Ax x.mem (sp_of x)) (ax_of x) ≡ Some v = ap (λ n. Some ((n * ax_of x) % 65536)) waits ∙ ap (λ n. Some ((ax_of t * n) % 65536)) now.word in
-        leads_as g a (call (Tos tos.Mul Ax) ∷ []) 2048 2048 x (IsReadyPopped g a pushed needs c w b tos.Mul Ax v x) Scaled (omega arith)
-        (λ y h. record { kept = over_pushed g a pushed needs c c w w b b Ax t u x y push now.kept h.ready h.are.sp (λ m le free. h.are.mem m (omega (arith, le))); word = h.result })
-        (operator_leads g a pushed needs c w b x tos.Mul Ax v placed ready2 given (omega arith))
-
-    behind_push : Leads g a (number_code Ax size ++ call (Tos tos.Mul Ax) ∷ []) 2050 u Scaled
-    behind_push =
-        leads_then g a (number_code Ax size) (call (Tos tos.Mul Ax) ∷ []) 2 2048 u (IsNow g a c w b Ax size u) Scaled
-        (scratch_leads g a (pushed + 2) needs c w b Ax placed (number_code Ax size) size u push.ready size_scratch size_is)
-        (λ x now. multiplied x now)
+  are_bytes = (is_on g a pushed needs c w b t placed ready).stacks.calm.bytes
 
   by_routine : Leads g a (by_code tos.Mul size) 2306 t Scaled
-  by_routine =
-      leads_then g a (push_code Ax) (number_code Ax size ++ call (Tos tos.Mul Ax) ∷ []) 256 2050 t (IsPushed g a pushed needs c w b Ax t) Scaled
-      (push_leads g a pushed needs c w b t placed ready Ax) (λ u push. behind_push u push)
+  by_routine = by_number g a pushed needs c w b t placed ready two tos.Mul size ((ax_of t * size) % 65536) refl small refl (omega arith)
 
   by_calls : (n : ℕ) → size ≡ 2 ^ n → n < 4 → Leads g a (calls_code tos.Shl Ax n) 2306 t Scaled
   by_calls n power few =
       leads_as g a (calls_code tos.Shl Ax n) (256 * n) 2306 t (IsNow g a c w b Ax (moved tos.Shl Ax (ax_of t) n) t) Scaled (omega (arith, few))
       (λ u h. record { kept = h.kept; word = h.word ∙ ap (λ p. (ax_of t * p) % 65536) (sym power) })
-      (calls_lead g a pushed (1 + needs) c w b tos.Shl Ax placed n (ax_of t) t ready refl tt)
+      (calls_lead g a pushed needs c w b tos.Shl Ax placed n (ax_of t) t ready refl tt)
 
   -- lines on scratch bytes that shift by n bits
   by_lines : (ls : List Line) (n : ℕ) → size ≡ 2 ^ n → length ls ≤ 20 → AreScratch ls → ax_of (after_lines g ls t) ≡ moved tos.Shl Ax (ax_of t) n → Leads g a ls 2306 t Scaled
   by_lines ls n power short own is =
       leads_as g a ls (length ls) 2306 t Scaled Scaled (omega (arith, short)) (λ u h. h)
-      (scratch_leads g a pushed (1 + needs) c w b Ax placed ls ((ax_of t * size) % 65536) t ready own (is ∙ ap (λ p. (ax_of t * p) % 65536) (sym power)))
+      (scratch_leads g a pushed needs c w b Ax placed ls ((ax_of t * size) % 65536) t ready own (is ∙ ap (λ p. (ax_of t * p) % 65536) (sym power)))
 
   -- any other size
   by_scale : Leads g a (scale_code size) 2306 t Scaled
@@ -123,7 +91,7 @@ module _ (g : World) (a : Active) (pushed needs : ℕ) (c : Scene) (w : Placing)
       by true two e f =
           let is : size ≡ 1 = eqb-true size 1 e in
           leads_as g a [] 0 2306 t Scaled Scaled (omega arith) (λ u h. h)
-          (none_leads g a t Scaled (still_now g a pushed (1 + needs) c w b Ax placed ((ax_of t * size) % 65536) t ready (same (ax_of t) (word_small Ax t are_bytes) ∙ ap (λ n. (ax_of t * n) % 65536) (sym is))))
+          (none_leads g a t Scaled (still_now g a pushed needs c w b Ax placed ((ax_of t * size) % 65536) t ready (same (ax_of t) (word_small Ax t are_bytes) ∙ ap (λ n. (ax_of t * n) % 65536) (sym is))))
         where
           same : (n : ℕ) → n < 65536 → n ≡ (n * 1) % 65536
           same n h = omega (arith, h)
@@ -139,4 +107,4 @@ module _ (g : World) (a : Active) (pushed needs : ℕ) (c : Scene) (w : Placing)
       chosen_below g a _ _ 2306 t Scaled n 16 (λ few. by_lines (left_byte_code (n - 8)) n power (repeated_short (n - 8) (shift_a Asl) (implied Tax ∷ value Lda 0 ∷ []) (omega (arith, few)) (omega arith)) (left_byte_scratch (n - 8)) (left_byte_word g (n - 8) t are_bytes ∙ ap (moved tos.Shl Ax (ax_of t)) (same_after n 8 eight))) (λ more. by_scale)))
 
 pub elements_are_scaled : ElementsAreScaled
-elements_are_scaled g a pushed needs size c w b t placed small ready = by_power g a pushed needs c w b t placed ready size small (power_of size) refl
+elements_are_scaled g a pushed needs size c w b t placed small ready two = by_power g a pushed needs c w b t placed ready two size small (power_of size) refl

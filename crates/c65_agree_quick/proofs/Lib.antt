@@ -10,5 +10,6 @@ pub mod Shifts
 pub mod Masks
 pub mod LongBits
 pub mod Products
+pub mod Room
 pub mod Elements
 pub mod Lines

@@ -7,12 +7,12 @@ use Rattle.c65_ints.specs.Ranges.{InRange}
 use Rattle.c65_csem.specs.Places.{is_promoted}
 use Rattle.c65_meaning.specs.Store.{Whole, Number}
 use Rattle.c65_meaning.specs.Items.{Item, Push, Apply2}
-use Rattle.c65_meaning.specs.State.{Scene}
+use Rattle.c65_meaning.specs.State.{Scene, soft_sum}
 use Rattle.c65_code.specs.declared.line.Line.{Line}
 use Rattle.c65_code.specs.declared.routine.Width.{Width}
 use Rattle.c65_code.specs.declared.routine.Width.TheVariants.{Ax}
-use Rattle.c65_code.specs.LineState.{State, ax_of}
-use Rattle.c65_code.specs.Placement.{IsPlacement}
+use Rattle.c65_code.specs.LineState.{State, sp_of, ax_of}
+use Rattle.c65_code.specs.Placement.{IsPlacement, stack_end}
 use Rattle.c65_code.specs.Rows.{primary_of}
 use Rattle.c65_genshift.specs.Quick.{elements_code}
 use Rattle.c65_genexpr.specs.declared.destination.Destination.TheVariants.{Registers}
@@ -80,10 +80,14 @@ pub record IsNow (g : World) (a : Active) (c : Scene) (w : Placing) (b : Banks) 
   pub kept : Kept g a c w b t c w b u
   pub word : primary_of width u ≡ n
 
+-- two bytes more than so many values may wait
+abbrev pub HasTwo : Active → ℕ → Scene → State → Type 0
+HasTwo a needs c t = stack_end + 8 * needs + 2 + a.spare ≤ sp_of t + soft_sum c.frames
+
 -- a number of elements in AX becomes the number of their bytes
 abbrev pub ElementsAreScaled : Type 0
 ElementsAreScaled = (g : World) (a : Active) (pushed needs size : ℕ) (c : Scene) (w : Placing) (b : Banks) (t : State)
-    → IsPlacement g.code g.place → size < 65536 → Ready g a pushed (1 + needs) c w b t → Leads g a (elements_code size) 2306 t (IsNow g a c w b Ax ((ax_of t * size) % 65536) t)
+    → IsPlacement g.code g.place → size < 65536 → Ready g a pushed needs c w b t → HasTwo a needs c t → Leads g a (elements_code size) 2306 t (IsNow g a c w b Ax ((ax_of t * size) % 65536) t)
 
 -- ---- the lines of the generator
 

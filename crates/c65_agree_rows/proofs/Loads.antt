@@ -84,7 +84,7 @@ long_below t at b = omega (arith, word_below t at b, word_below t (at + 2) b)
 abbrev HasNear : NearLoad → ℕ → State → Type 0
 HasNear load at t = HasRow (near_load_of load) (range_of (near_width load) at) [] (IsNearLoaded load at t) t
 
-near_rows : (load : NearLoad) (o : ℕ) (t : State) → IsBytes t → IsOffset load o t.regs.y → HasNear load (sp_of t + o) t
+pub near_rows : (load : NearLoad) (o : ℕ) (t : State) → IsBytes t → IsOffset load o t.regs.y → HasNear load (sp_of t + o) t
 near_rows WordByY o t b e =
     let at : sp_of t + t.regs.y - 1 ≡ sp_of t + o = omega (arith, e) in
     record {
@@ -125,7 +125,7 @@ near_loads_run g a pushed needs c w k t load o placed r e fits =
     (in_range (IsOpen g.place (sp_of t)) (near_width load) (sp_of t + o) (λ i lt. inr (omega arith, omega (arith, lt, fits))))
     (All-nil (IsOpen g.place (sp_of t)))
 
-far_rows : (load : FarLoad) (t : State) → IsBytes t → HasRow (far_load_of load) [] (range_of (far_width load) (ax_of t)) (IsFarLoaded load t) t
+pub far_rows : (load : FarLoad) (t : State) → IsBytes t → HasRow (far_load_of load) [] (range_of (far_width load) (ax_of t)) (IsFarLoaded load t) t
 far_rows FarByte t b = record {
   row = _;
   is = refl;

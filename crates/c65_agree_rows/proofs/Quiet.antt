@@ -142,4 +142,4 @@ undefined_stays g why zero = refl
 undefined_stays g why (suc n) = undefined_stays g why n
 
 pub nothing_follows : (g : World) (why : Why) (n v : ℕ) (q : Spot) (t : State) (seen : Seen) → Follows g n v (Undefined why) q t seen
-nothing_follows g why n v q t seen d = absurd (subst (λ m. IsDefined (outcome_of m)) (undefined_stays g why n) d)
+nothing_follows g why n v q t seen d = absurd (subst (λ m. IsDefined (outcome_of m)) (undefined_stays g why n) d.1)

@@ -1,2 +1,5 @@
+pub mod Accepted
 pub mod Callees
+pub mod Functions
 pub mod Slots
+pub mod Taken

@@ -232,7 +232,7 @@ module _ (parts : Parts) (prototype : Bool) (f h : Framed) (low at : ℕ) (hs : 
       let sum : at + sum_in parts prototype is ≡ at + sizes_of f es = ap (λ n. at + n) (sizes_are parts prototype f is es sizes.2) in
       (own_home i ∙ (there_home low hs i (Soft (at + sum_in parts prototype is)) from.0 stand.0 ∙ ap (λ n. Some (Soft n)) sum), sizes.1, have_slots is es from.1 stand.1 sizes.2)
 
-answered : {A E : Type 0} (b : Bool) (x : E) (y f : A) → (if b then Err x else Ok y) ≡ Ok f → y ≡ f
+pub answered : {A E : Type 0} (b : Bool) (x : E) (y f : A) → (if b then Err x else Ok y) ≡ Ok f → y ≡ f
 answered true x y f e = cc
 answered false x y f e = cc
 

@@ -1,2 +1,4 @@
 pub mod Callees
+pub mod Functions
 pub mod Slots
+pub mod Taken

@@ -22,7 +22,7 @@ ways_are_followed g n v w m p t seen h d =
 pub steps_earn : StepsEarn
 steps_earn g zero w i k vs c p t seen calm out end turns f d = here (out, end, turns) calm
 steps_earn g (suc n) w i k vs c p t seen calm out end turns f d =
-    weaken (setting_in g) (Agrees g (steps (program_in g) n (perform (program_in g) i k vs c))) (4000 * suc n + w) (omega arith) (f n (omega arith) d)
+    weaken (setting_in g) (Agrees g (steps (program_in g) n (perform (program_in g) i k vs c))) (4000 * suc n + w) (omega arith) (f n (omega arith) (omega (arith, d.0), d.1))
 
 -- ---- arrivals
 

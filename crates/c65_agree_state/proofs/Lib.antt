@@ -4,3 +4,4 @@ pub mod Parts
 pub mod Nodes
 pub mod Leaves
 pub mod Tests
+pub mod Yields

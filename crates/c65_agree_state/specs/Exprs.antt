@@ -1,10 +1,11 @@
 -- What the lines of an expression do: by continuation, so that ends, cut-offs and undefined actions need no cases.
-use Rattle.std.specs.Prelude.{◌≡◌, ℕ, ◌+◌, ◌*◌, ◌<◌, ◌≤◌, Bool, false, if◌then◌else◌, List, [], ◌∷◌, Option, Some, None, Ok, length}
+use Rattle.std.specs.Prelude.{◌≡◌, ℕ, zero, suc, ◌+◌, ◌*◌, ◌<◌, ◌≤◌, Bool, true, false, ◌&&◌, if◌then◌else◌, List, [], ◌∷◌, Option, Some, None, Ok, length}
 use Rattle.std.specs.Bool.{beq}
-use Rattle.c65_csem.specs.Trees.{Typed, UnitTy}
-use Rattle.c65_csem.specs.Places.{is_place, is_registered}
+use Rattle.c65_ctype.specs.Trees.{type_in}
+use Rattle.c65_csem.specs.Trees.{Typed, node, Node, choice, comma, copy, spill, UnitTy}
+use Rattle.c65_csem.specs.Places.{is_place, is_registered, is_tag}
 use Rattle.c65_csem_need.specs.Needs.{need}
-use Rattle.c65_meaning.specs.Store.{Block, Store, Value, Place, Cells, NoValue, Shape, Number}
+use Rattle.c65_meaning.specs.Store.{Block, Store, Value, Place, Cells, NoValue, Shape, Number, Area}
 use Rattle.c65_meaning.specs.Fits.{Fits}
 use Rattle.c65_meaning.specs.Operators.{truth_of}
 use Rattle.c65_meaning.specs.Shapes.{shape_of, bare_type}
@@ -48,15 +49,35 @@ pub data Yield : Type 0 where
   Placed : Yield
   Registered : Yield
 
+-- nodes whose value, where it is a structure or union, stands in memory: an arm, the right side of `,`, what a copy has filled, and the
+-- object that takes what a call gives
+abbrev pub leads_on : Node → Bool
+leads_on (choice x a b) = true
+leads_on (comma a b) = true
+leads_on (copy a b) = true
+leads_on (spill i e) = true
+leads_on _ = false
+
+abbrev pub is_area : Typed → Bool
+is_area (node t e) = leads_on e && is_tag (type_in t)
+
 abbrev pub yield_of : UnitTy → Typed → Yield
-yield_of u e = if is_place e then (if is_registered u e then Registered else Placed) else Valued
+yield_of u e = if is_place e then (if is_registered u e then Registered else Placed) else if is_area e then Placed else Valued
 
 abbrev pub IsPlaceValue : Value → Type 0
 IsPlaceValue (Place b o) = Unit {0}
 IsPlaceValue _ = ⊥
 
+-- the value of a structure or union that is passed or given is its cells, and that of void is none
+abbrev pub IsAreaValue : ℕ → Value → Type 0
+IsAreaValue zero v = v ≡ NoValue
+IsAreaValue (suc size) NoValue = Unit {0}
+IsAreaValue (suc size) (Cells xs) = length xs ≡ suc size
+IsAreaValue (suc size) v = ⊥
+
 -- A number lies in the range of its type. A function may have given no value, which no use allows.
 abbrev pub MayFit : Yield → Shape → Value → Type 0
+MayFit Valued (Area size) v = IsAreaValue size v
 MayFit Valued shape NoValue = Unit {0}
 MayFit Valued shape v = Fits shape v
 MayFit _ shape v = IsPlaceValue v

@@ -15,5 +15,9 @@ Agrees g Deep p t seen = ⊥
 Agrees g (Ended out status turns) p t seen = (t.output ≡ out) × (t.ended ≡ Some status) × (turns ≤ total_in g seen)
 Agrees g (Running work values c) p t seen = (t.output ≡ c.out) × (t.ended ≡ None) × (c.turns ≤ total_in g seen)
 
+-- so many steps are spoken of, and the meaning is defined through them
+abbrev pub IsSpokenOf : World → ℕ → meaning.State → Type 0
+IsSpokenOf g n m = (n ≤ g.most) × IsDefined (outcome_of (steps (program_in g) n m))
+
 abbrev pub Follows : World → ℕ → ℕ → meaning.State → Place → State → Seen → Type 0
-Follows g n w m p t seen = IsDefined (outcome_of (steps (program_in g) n m)) → Comes (setting_in g) (Agrees g (steps (program_in g) n m)) (4000 * n + w) p t seen
+Follows g n w m p t seen = IsSpokenOf g n m → Comes (setting_in g) (Agrees g (steps (program_in g) n m)) (4000 * n + w) p t seen

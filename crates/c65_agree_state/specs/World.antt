@@ -29,6 +29,8 @@ pub record World : Type 0 where
   -- taken, and of each loop the line at its head, to which it comes with the turn; a line may stand here for several of them
   pub owns : List Place
   pub heads : List Place
+  -- no run of more steps of the meaning is spoken of, so that what calls do may be shown from what they do in fewer
+  pub most : ℕ
 
 abbrev pub unit_in : World → UnitTy
 unit_in g = unit_of g.parts

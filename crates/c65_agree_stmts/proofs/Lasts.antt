@@ -67,7 +67,7 @@ module _ (x : Calling) where
           work_ends x scope (plan_stmt u at (block os ss)) w (any_last ss) (lasts_code f w next ss fresh)
           (open_block_ends x scope at w os ss (any_last ss) (lasts_code f w next ss fresh) ground h.0 (lasts_end ss (os ++ scope) (suc at) next fresh w h.1))
       last_does (return absent) scope at next fresh w h = work_ends x scope (plan_stmt u at (return absent)) w true [] (last_returns x scope at w)
-      last_does (return (present e)) scope at next fresh w h = work_ends x scope (plan_stmt u at (return (present e))) w true (expr_code f 0 fresh Value e) (last_done x scope w fresh e h.value h.plain h.shape at)
+      last_does (return (present e)) scope at next fresh w h = work_ends x scope (plan_stmt u at (return (present e))) w true (expr_code f 0 fresh Value e) (last_done x scope w fresh e h at)
       last_does empty scope at next fresh w h = stmt_does empty scope at next fresh w h
       last_does (eval e) scope at next fresh w h = stmt_does (eval e) scope at next fresh w h
       last_does (set_part i o e) scope at next fresh w h = stmt_does (set_part i o e) scope at next fresh w h

@@ -1,8 +1,7 @@
 -- `break`, `continue` and `return`.
-use Rattle.std.proofs.Common.{◌≡◌, ℕ, ◌+◌, ◌<◌, Bool, true, false, List, [], ◌∷◌, ◌++◌, Option, Some, None, sym, ap, ◌∙◌, subst, arith}
+use Rattle.std.proofs.Common.{◌≡◌, ℕ, ◌+◌, ◌<◌, Bool, true, false, List, [], ◌∷◌, ◌++◌, Option, Some, None, sym, ◌∙◌, subst, arith}
 use Rattle.std.specs.Prelude.{length, if◌then◌else◌, slice_get}
 use Rattle.c65_csem.specs.Trees.{Typed, absent, present, break, continue, return, UnitTy}
-use Rattle.c65_csem.specs.Places.{is_place, is_registered}
 use Rattle.c65_csem_need.specs.Needs.{need}
 use Rattle.c65_mach.specs.declared.rows.Op.TheVariants.{Jmp}
 use Rattle.c65_meaning.specs.declared.action.Action.TheVariants.{NoResult}
@@ -23,10 +22,11 @@ use Rattle.c65_genstmt.specs.declared.jumps.Ways.{Ways}
 use Rattle.c65_agree_store.specs.Stands.{Placing, Banks}
 use Rattle.c65_agree_state.specs.World.{unit_in, lines_of, place_in, HasAt, HasTurns, HasCome}
 use Rattle.c65_agree_state.specs.Follows.{Follows}
-use Rattle.c65_agree_state.specs.Exprs.{Valued, Placed, Registered, yield_of, shape_in, width_in, MayFit, ResultIs, Does as LinesDo}
+use Rattle.c65_agree_state.specs.Exprs.{Valued, shape_in, width_in, MayFit, ResultIs, Does as LinesDo}
 use Rattle.c65_agree_state.proofs.Followed.{follows_weaken}
 use Rattle.c65_agree_state.proofs.Nodes.{has_front, has_back}
-use Rattle.c65_agree_stmts.specs.Calling.{Calling, HasValue}
+use Rattle.c65_agree_state.proofs.Yields.{nothing_may_fit}
+use Rattle.c65_agree_stmts.specs.Calling.{Calling, HasResult}
 use Rattle.c65_agree_stmts.specs.Laws.{BreakDoes, ContinueDoes, ReturnDoes, ReturnOfDoes}
 use Rattle.c65_agree_stmts.proofs.Standing.{Stands, stands_behind, ready, earns, jumps, come_turns, undefined_follows}
 use Rattle.c65_agree_stmts.proofs.Ahead.{onward, Leads, Ahead, IsEnding, IsDone, work_does}
@@ -78,32 +78,26 @@ continue_does x scope at next fresh w = work_does x scope (plan_stmt (unit_in x.
 pub return_does : ReturnDoes
 return_does x scope at next fresh w = work_does x scope (plan_stmt (unit_in x.world) at (return absent)) w (jump Jmp 0 ∷ []) (λ n v p k c q b t seen le more has stands turns ahead goes.
     earns x scope c q b t stands n v GiveNothing k x.values _ seen turns (λ j lt.
-    follows_weaken x.world j (1 + v) (v + 4000) _ _ t seen (omega arith) (returned_goes x scope c q b t stands k w n j v p NoValue seen ahead lt has.0 turns tt tt)))
+    follows_weaken x.world j (1 + v) (v + 4000) _ _ t seen (omega arith) (returned_goes x scope c q b t stands k w n j v p NoValue seen ahead lt has.0 turns tt (nothing_may_fit x.result))))
 
 -- last in the function no jump leads there
 pub last_returns : (x : Calling) (scope : List ℕ) (at : ℕ) (w : Ways) → IsEnding x scope (plan_stmt (unit_in x.world) at (return absent)) w true []
 last_returns x scope at w n v p k c q b t seen le more has stands turns ahead ends =
     earns x scope c q b t stands n v GiveNothing k x.values _ seen turns (λ j lt.
     follows_weaken x.world j v (v + 4000) _ _ t seen (omega arith)
-    (onward x.world x.active j v c.turns (returned (unit_in x.world) NoValue x.values c (up_to_call k)) _ _ t seen (behind_nothing x.world x.active p ∙ ends) (λ turns2. leaves x scope c q b t stands k w n j v NoValue seen ahead lt turns2 tt tt) turns))
+    (onward x.world x.active j v c.turns (returned (unit_in x.world) NoValue x.values c (up_to_call k)) _ _ t seen (behind_nothing x.world x.active p ∙ ends) (λ turns2. leaves x scope c q b t stands k w n j v NoValue seen ahead lt turns2 tt (nothing_may_fit x.result)) turns))
 
 -- ---- with a value
 
--- an expression that is no place gives its value
-gives_value : (u : UnitTy) (e : Typed) → is_place e ≡ false → yield_of u e ≡ Valued
-gives_value u e plain = ap (λ b. if b then (if is_registered u e then Registered else Placed) else Valued) plain
-
-module _ (x : Calling) (scope : List ℕ) (w : Ways) (fresh : ℕ) (e : Typed) (has : HasValue x e) (plain : is_place e ≡ false) (same : shape_in x.world x.active e ≡ x.result) where
+module _ (x : Calling) (scope : List ℕ) (w : Ways) (fresh : ℕ) (e : Typed) (has : HasResult x e) where
   abbrev E : List Line
   E = expr_code x.active.frame 0 fresh WantsValue e
 
   abbrev u : UnitTy
   u = unit_in x.world
 
-  value_does : LinesDo x.world x.active Valued x.result (plan u e) (need e) 0 E
-  value_does =
-      subst (λ f. LinesDo x.world x.active Valued f (plan u e) (need e) 0 E) same
-      (subst (λ y. LinesDo x.world x.active y (shape_in x.world x.active e) (plan u e) (need e) 0 E) (gives_value u e plain) (has.does 0 fresh))
+  value_does : LinesDo x.world x.active Valued (shape_in x.world x.active e) (plan u e) (need e) 0 E
+  value_does = subst (λ y. LinesDo x.world x.active y (shape_in x.world x.active e) (plan u e) (need e) 0 E) has.gives (has.value.does 0 fresh)
 
   given_goes : (j v : ℕ) (k : List Item) (c : Scene) (p : Place) (t : State) (seen : Seen) (value : Value) → Follows x.world j (1 + v) (returned u value x.values c (up_to_call k)) p t seen → (is : Bool)
       → Follows x.world j (1 + v) (if is then returned u value x.values c (up_to_call k) else Undefined (By NoResult)) p t seen
@@ -116,11 +110,11 @@ module _ (x : Calling) (scope : List ℕ) (w : Ways) (fresh : ℕ) (e : Typed) (
       → ResultIs Valued q2 (width_in x.result) value y → MayFit Valued x.result value → Follows x.world j (1 + v) (returned u value x.values c2 (up_to_call k)) (place_in x.world x.active (p + length E)) y later)
       → Follows x.world n v (Running (plan u e (Give ∷ k)) x.values c) (place_in x.world x.active p) t seen
   value_goes n v p k c q b t seen there stands turns out =
-      value_does n v p (Give ∷ k) x.values c q b t seen there (ready x scope c q b t stands (need e) has.need) turns (λ j value c2 q2 b2 y later lt done turns2.
+      value_does n v p (Give ∷ k) x.values c q b t seen there (ready x scope c q b t stands (need e) has.value.need) turns (λ j value c2 q2 b2 y later lt done turns2.
       let stands2 = stands_behind x scope c c2 q q2 b b2 t y stands done.kept in
       earns x scope c2 q2 b2 y stands2 j (v + 2600) Give k (value ∷ x.values) _ later turns2 (λ h lt2.
       follows_weaken x.world h (1 + v) (v + 2600 + 4000) _ _ y later (omega arith)
-      (given_goes h v k c2 (place_in x.world x.active (p + length E)) y later value (out h value c2 q2 b2 y later (omega (arith, lt, lt2)) stands2 turns2 done.result done.fits) (is_value value))))
+      (given_goes h v k c2 (place_in x.world x.active (p + length E)) y later value (out h value c2 q2 b2 y later (omega (arith, lt, lt2)) stands2 turns2 (subst (λ width. ResultIs Valued q2 width value y) has.width done.result) (has.fits value done.fits)) (is_value value))))
 
   return_done : (at : ℕ) → IsDone x scope (plan_stmt u at (return (present e))) w (E ++ jump Jmp 0 ∷ [])
   return_done at n v p k c q b t seen le more there stands turns ahead goes =
@@ -134,4 +128,4 @@ module _ (x : Calling) (scope : List ℕ) (w : Ways) (fresh : ℕ) (e : Typed) (
       (onward x.world x.active j v c2.turns (returned u value x.values c2 (up_to_call k)) _ _ y later ends (λ turns3. leaves x scope c2 q2 b2 y stands2 k w n j v value later ahead lt turns3 result fits) turns2))
 
 pub return_of_does : ReturnOfDoes
-return_of_does x scope at next fresh w e has plain same = work_does x scope (plan_stmt (unit_in x.world) at (return (present e))) w (expr_code x.active.frame 0 fresh WantsValue e ++ jump Jmp 0 ∷ []) (return_done x scope w fresh e has plain same at)
+return_of_does x scope at next fresh w e has = work_does x scope (plan_stmt (unit_in x.world) at (return (present e))) w (expr_code x.active.frame 0 fresh WantsValue e ++ jump Jmp 0 ∷ []) (return_done x scope w fresh e has at)

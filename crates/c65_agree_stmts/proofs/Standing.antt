@@ -52,7 +52,7 @@ undefined_stays p zero why d = d
 undefined_stays p (suc n) why d = undefined_stays p n why d
 
 pub undefined_follows : (g : World) (n w : ℕ) (why : Why) (p : Place) (t : State) (seen : Seen) → Follows g n w (Undefined why) p t seen
-undefined_follows g n w why p t seen d = absurd (undefined_stays (program_in g) n why d)
+undefined_follows g n w why p t seen d = absurd (undefined_stays (program_in g) n why d.1)
 
 -- a decision by a value whose truth a test has told
 pub decided_follows : (g : World) (n w : ℕ) (store : Store) (v : Value) (s taken : Bool) (one other : meaning.State) (p : Place) (t : State) (seen : Seen) → Tells store v s taken

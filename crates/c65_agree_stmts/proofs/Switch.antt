@@ -2,14 +2,16 @@
 use Rattle.std.proofs.Common.{◌≡◌, ℕ, ℤ, zero, suc, ◌+◌, ◌*◌, ◌<◌, ◌≤◌, inr, List, [], ◌∷◌, ◌++◌, Option, Some, None, Bool, true, false, refl, sym, ap, ◌∙◌, subst, arith, length-append}
 use Rattle.std.specs.Prelude.{length, if◌then◌else◌}
 use Rattle.c65_ints.specs.declared.types.IntType.{IntType}
+use Rattle.c65_ctype.specs.Trees.{Ty, void, int, pointer, array, tag, function, TypesTy}
 use Rattle.c65_csem.specs.Trees.{Typed, Stmt, switch, UnitTy}
-use Rattle.c65_csem.specs.Places.{is_place, is_registered}
+use Rattle.c65_csem.specs.Places.{is_place, is_tag}
 use Rattle.c65_csem.specs.Statements.{cases_of}
 use Rattle.c65_csem_need.specs.Needs.{need}
 use Rattle.c65_csem_plain.specs.Arms.{arms}
 use Rattle.c65_mach.specs.declared.rows.Op.TheVariants.{Jmp}
 use Rattle.c65_meaning.specs.Store.{Value, Whole, Null, Place, Opaque, Cells, NoValue, Number}
 use Rattle.c65_meaning.specs.Operators.{unusable}
+use Rattle.c65_meaning.specs.Shapes.{bare_type, shape_of}
 use Rattle.c65_meaning.specs.Items.{Item, Select, EndSwitch, plan, plan_stmt}
 use Rattle.c65_meaning.specs.After.{Sought, ToLabel, ToCase, ToDefault, Landing, or_else, after}
 use Rattle.c65_meaning.specs.Sites as sites
@@ -33,10 +35,11 @@ use Rattle.c65_genstmt.specs.Stmts.{ways, default_way}
 use Rattle.c65_agree_store.specs.Stands.{Placing, Banks}
 use Rattle.c65_agree_state.specs.World.{unit_in, lines_of, place_in, HasAt, IsPlaced, HasTurns, HasCome}
 use Rattle.c65_agree_state.specs.Follows.{Follows}
-use Rattle.c65_agree_state.specs.Exprs.{Valued, Placed, Registered, yield_of, shape_in, MayFit, ResultIs, Does as LinesDo}
+use Rattle.c65_agree_state.specs.Exprs.{Valued, shape_in, MayFit, ResultIs, Does as LinesDo}
 use Rattle.c65_agree_state.specs.Stmts.{arms_weight}
 use Rattle.c65_agree_state.proofs.Followed.{follows_weaken}
 use Rattle.c65_agree_state.proofs.Nodes.{has_front, has_back}
+use Rattle.c65_agree_state.proofs.Yields.{value_yields}
 use Rattle.c65_agree_lines.specs.Lists.{stmt_code, head_code, head_uses}
 use Rattle.c65_agree_stmts.specs.Calling.{Calling, HasValue}
 use Rattle.c65_agree_stmts.specs.Objects.{MayAllBegin, HasGround}
@@ -171,15 +174,20 @@ module _ (x : Calling) (scope : List ℕ) (at fresh : ℕ) (w : Ways) (e : Typed
 
 -- ---- the whole
 
--- an expression that is no place gives its value
-gives_value : (u : UnitTy) (e : Typed) → is_place e ≡ false → yield_of u e ≡ Valued
-gives_value u e plain = ap (λ b. if b then (if is_registered u e then Registered else Placed) else Valued) plain
+-- a number is no structure or union
+no_tag : (types : TypesTy) (t : Ty) (kind : IntType) → shape_of types t ≡ Number kind → is_tag t ≡ false
+no_tag types void kind e = refl
+no_tag types (int k) kind e = refl
+no_tag types (pointer q) kind e = refl
+no_tag types (array q n) kind e = refl
+no_tag types (function f) kind e = refl
+no_tag types (tag n) kind e = absurd (cc)
 
 value_does : (x : Calling) (e : Typed) (kind : IntType) (fresh : ℕ) → HasValue x e → is_place e ≡ false → shape_in x.world x.active e ≡ Number kind
     → LinesDo x.world x.active Valued (Number kind) (plan (unit_in x.world) e) (need e) 0 (expr_code x.active.frame 0 fresh WantsValue e)
 value_does x e kind fresh has plain same =
     subst (λ f. LinesDo x.world x.active Valued f (plan (unit_in x.world) e) (need e) 0 (expr_code x.active.frame 0 fresh WantsValue e)) same
-    (subst (λ y. LinesDo x.world x.active y (shape_in x.world x.active e) (plan (unit_in x.world) e) (need e) 0 (expr_code x.active.frame 0 fresh WantsValue e)) (gives_value (unit_in x.world) e plain) (has.does 0 fresh))
+    (subst (λ y. LinesDo x.world x.active y (shape_in x.world x.active e) (plan (unit_in x.world) e) (need e) 0 (expr_code x.active.frame 0 fresh WantsValue e)) (value_yields (unit_in x.world) e plain (no_tag (unit_in x.world).types (bare_type e) kind same)) (has.does 0 fresh))
 
 pub switch_does : SwitchDoes
 switch_does x scope at next fresh w e s kind placed ground has plain same kinds choice may few lcase ldefault =

@@ -49,7 +49,7 @@ module _ (x : Calling) (placed : IsPlaced (lines_of x.world x.active)) (ground :
     stmt_does break scope at next fresh w h = break_does x scope at next fresh w
     stmt_does continue scope at next fresh w h = continue_does x scope at next fresh w
     stmt_does (return absent) scope at next fresh w h = return_does x scope at next fresh w
-    stmt_does (return (present e)) scope at next fresh w h = return_of_does x scope at next fresh w e h.value h.plain h.shape
+    stmt_does (return (present e)) scope at next fresh w h = return_of_does x scope at next fresh w e h
 
     stmts_do : (ss : Stmts) (scope : List ℕ) (at next fresh : ℕ) (w : Ways) → HaveParts x scope at ss w next fresh → AllDo x scope at ss w next fresh
     stmts_do no_stmts scope at next fresh w h = none_do x scope at next fresh w

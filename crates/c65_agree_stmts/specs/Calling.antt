@@ -18,7 +18,7 @@ use Rattle.c65_genstmt.specs.Stmts.{returns_last}
 use Rattle.c65_agree_store.specs.Stands.{Placing, Banks}
 use Rattle.c65_agree_state.specs.World.{World, unit_in, Active, lines_of, place_in, owned_at, HasAt, HasTurns}
 use Rattle.c65_agree_state.specs.Follows.{Follows}
-use Rattle.c65_agree_state.specs.Exprs.{ExpressionDoes, TestDoes}
+use Rattle.c65_agree_state.specs.Exprs.{Valued, yield_of, MayFit, width_in, shape_in, ExpressionDoes, TestDoes}
 use Rattle.c65_agree_state.specs.Stmts.{Between, Keeping, Covers, GoesOn, LeadsTo, LabelLeads, ReturnLeads, arms_weight, StatementDoes}
 use Rattle.c65_agree_lines.specs.Lists.{stmt_code, stmts_code, last_code}
 use Rattle.c65_agree_stmts.specs.Effects.{EffectDoes}
@@ -100,6 +100,13 @@ pub record HasTest (x : Calling) (e : Typed) : Type 0 where
 pub record HasEffect (x : Calling) (e : Typed) : Type 0 where
   pub does : EffectDoes x.world x.active e
   pub need : need e ≤ x.needs
+
+-- A value that a function gives stands where one of the function's type does, and fits that: a pointer's type may have been completed since.
+pub record HasResult (x : Calling) (e : Typed) : Type 0 where
+  pub value : HasValue x e
+  pub gives : yield_of (unit_in x.world) e ≡ Valued
+  pub width : width_in (shape_in x.world x.active e) ≡ width_in x.result
+  pub fits : (v : Value) → MayFit Valued (shape_in x.world x.active e) v → MayFit Valued x.result v
 
 -- where there is one
 abbrev pub MayHaveTest : Calling → MaybeTyped → Type 0

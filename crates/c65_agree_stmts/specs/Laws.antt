@@ -29,7 +29,7 @@ use Rattle.c65_agree_state.specs.Exprs.{Yield, Does as LinesDo, shape_in}
 use Rattle.c65_agree_state.specs.Stmts.{Between, Keeping, GoesOn, LabelLeads, ReturnLeads, arms_weight}
 use Rattle.c65_agree_lines.specs.Lists.{effects_uses, guard_uses, head_uses, stmt_uses, last_code}
 use Rattle.c65_agree_stmts.specs.Effects.{Effects}
-use Rattle.c65_agree_stmts.specs.Calling.{Calling, Does, AllDo, EndsIn, LastDoes, HasValue, HasTest, HasEffect, MayHaveTest, MayHaveEffect, HeadIsCounted, GotosAreCounted}
+use Rattle.c65_agree_stmts.specs.Calling.{Calling, Does, AllDo, EndsIn, LastDoes, HasValue, HasTest, HasEffect, MayHaveTest, MayHaveEffect, HasResult, HeadIsCounted, GotosAreCounted}
 use Rattle.c65_agree_stmts.specs.Objects.{MayAllBegin, HasGround, MayLand}
 use Rattle.c65_agree_stmts.specs.Landings.{LandsIn, LandsAmong, LandsLast}
 use Rattle.c65_agree_stmts.specs.Choices.{ChoiceLeads}
@@ -112,8 +112,7 @@ abbrev pub ReturnDoes : Type 0
 ReturnDoes = (x : Calling) (scope : List ℕ) (at next fresh : ℕ) (w : Ways) → Does x scope at (return absent) w next fresh
 
 abbrev pub ReturnOfDoes : Type 0
-ReturnOfDoes = (x : Calling) (scope : List ℕ) (at next fresh : ℕ) (w : Ways) (e : Typed) → HasValue x e → is_place e ≡ false → shape_in x.world x.active e ≡ x.result
-    → Does x scope at (return (present e)) w next fresh
+ReturnOfDoes = (x : Calling) (scope : List ℕ) (at next fresh : ℕ) (w : Ways) (e : Typed) → HasResult x e → Does x scope at (return (present e)) w next fresh
 
 -- a label of the function (C90 6.6.1)
 abbrev pub LabelDoes : Type 0

@@ -18,15 +18,9 @@ use Rattle.c65_agree_state.specs.World.{unit_in}
 use Rattle.c65_agree_state.specs.Exprs.{shape_in}
 use Rattle.c65_agree_state.specs.Stmts.{arms_weight}
 use Rattle.c65_agree_lines.specs.Lists.{effects_uses, guard_uses, head_uses, stmt_uses}
-use Rattle.c65_agree_stmts.specs.Calling.{Calling, Does, HasValue, HasTest, HasEffect, MayHaveTest, MayHaveEffect, HeadIsCounted, GotosAreCounted}
+use Rattle.c65_agree_stmts.specs.Calling.{Calling, Does, HasValue, HasTest, HasEffect, MayHaveTest, MayHaveEffect, HasResult, HeadIsCounted, GotosAreCounted}
 use Rattle.c65_agree_stmts.specs.Objects.{MayAllBegin, MayLand}
 use Rattle.c65_agree_stmts.specs.Choices.{ChoiceLeads}
-
--- a value that a function gives
-pub record HasResult (x : Calling) (e : Typed) : Type 0 where
-  pub value : HasValue x e
-  pub plain : is_place e ≡ false
-  pub shape : shape_in x.world x.active e ≡ x.result
 
 -- the head of a switch, and the objects of the blocks round its labels
 pub record HasChoice (x : Calling) (scope : List ℕ) (at : ℕ) (e : Typed) (s : Stmt) (fresh : ℕ) : Type 0 where

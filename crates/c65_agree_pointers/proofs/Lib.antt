@@ -1,0 +1,16 @@
+pub mod Moved
+pub mod Apart
+pub mod Elements
+pub mod Last
+pub mod Walks
+pub mod Waits
+pub mod Words
+pub mod Given
+pub mod Stacked
+pub mod Constants
+pub mod Forms
+pub mod Indexed
+pub mod Rights
+pub mod Lefts
+pub mod Held
+pub mod Lines

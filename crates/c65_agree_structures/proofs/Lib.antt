@@ -1,0 +1,15 @@
+pub mod Sizes
+pub mod Cells
+pub mod Loads
+pub mod Results
+pub mod Addresses
+pub mod Bases
+pub mod Packs
+pub mod Spilling
+pub mod Spills
+pub mod Copies
+pub mod Offsets
+pub mod Members
+pub mod Pointers
+pub mod Takers
+pub mod Constants

@@ -1,0 +1,9 @@
+pub mod Areas
+pub mod Laws
+pub mod Results
+pub mod Bases
+pub mod Packs
+pub mod Spills
+pub mod Copies
+pub mod Members
+pub mod Takers
