@@ -1,5 +1,5 @@
 -- The functions of a program.
-use Rattle.std.proofs.Common.{◌≡◌, ℕ, zero, suc, ◌+◌, ◌<◌, ◌≤◌, ◌^◌, ◌==◌, Bool, true, false, not, Option, None, Some, List, [], ◌∷◌, ◌++◌, length, slice_get, refl, sym, ap, subst, ◌∙◌, arith}
+use Rattle.std.proofs.Common.{◌≡◌, ℕ, zero, suc, ◌+◌, ◌<◌, ◌≤◌, ◌^◌, ◌==◌, Bool, true, false, not, Option, None, Some, List, [], ◌∷◌, ◌++◌, length, refl, sym, ap, subst, ◌∙◌, arith}
 use Rattle.std.specs.Prelude.{◌&&◌, Result, Ok, Err, nat_lt}
 use Rattle.c65_base.specs.declared.refusal.Size.TheVariants as sizes
 use Rattle.c65_base.specs.Answers.{Fault, large, ◌>>=◌}
@@ -39,15 +39,15 @@ use Rattle.c65_genstmt.specs.Objects.{spot_of, object_bytes, with_kept, with_zer
 use Rattle.c65_genstmt.specs.Stmts.{case_behind, with_label, two_given, three_given, with_maybe, with_effects, with_guard, ways, with_choice, with_stmt, with_stmts, with_last, with_lasts, is_empty, with_way, returns_last}
 use Rattle.c65_genstmt.specs.Functions.{gives_of, main_code, no_lines, with_function, segment_of, function_of}
 use Rattle.c65_genstmt.specs.Programs.{one_more, function_added, functions_from}
+use Rattle.c65_genstmt.proofs.Made.{IsMade, function_is_made}
 use Rattle.c65_gen_law_lines.proofs.FrameLaws.{answered}
 use Rattle.c65_gen_law_lines.proofs.FunctionLaws.{functions_are_segments}
-use Rattle.c65_asm_law.specs.Laws.{UsesFewLabels}
 use Rattle.c65_asm_law.proofs.Well.{AllWell, well_append, well_none, letters_none, letters_a, letters_ax, letters_eax}
 use Rattle.c65_asm_law.proofs.Known.{KnowsBy, Knows}
 use Rattle.c65_asm_law.proofs.Moves.{frames_move}
 use Rattle.c65_asm_law.proofs.Entries.{entry_well, end_well}
 use Rattle.c65_asm_law.proofs.Stmts.{last_well}
-use Rattle.c65_asm_law.proofs.Lists.{Every, every_append, Rises, rises_wider, rises_more, IsRest, rest_first, rest_next}
+use Rattle.c65_asm_law.proofs.Lists.{Every, every_append, Rises, rises_wider, rises_more}
 
 -- ---- what a function gives stays through its body
 
@@ -180,21 +180,19 @@ answer x y h = cc
 
 -- a segment that is made of a body
 segment_well : (n : ℕ) (parts : Parts) (is_main : Bool) (modes : Modes) (g : FuncTy) (body : Stmt) (s : Segment) (name : Sym) → KnowsBy (numbers_of parts) (unit_of parts) n → g.body ≡ Some body → IsBody (unit_of parts) g body → name.0 < n
-    → ((f : Framed) → frame_of parts modes g ≡ Ok f → (with_function f is_main g.body (no_lines (gives_of parts g))).labels < 2 ^ 32) → function_of parts is_main modes g ≡ Ok s → WellFunction n (name, s)
-unfolding function_of
-segment_well n parts is_main modes g body s name knows there well known few h =
-    let made : (f : Framed) × (frame_of parts modes g ≡ Ok f) × (◌≡◌ {A = Result Segment Fault} (Ok (segment_of parts is_main g f)) (Ok s)) = bound (frame_of parts modes g) (λ f. Ok (segment_of parts is_main g f)) s h in
-    let f : Framed = made.0 in
+    → function_of parts is_main modes g ≡ Ok s → WellFunction n (name, s)
+segment_well n parts is_main modes g body s name knows there well known h =
+    let made : IsMade parts is_main modes g s = function_is_made parts is_main modes g s h in
+    let f : Framed = made.frame in
     let out : RegSet = gives_of parts g in
-    let same : segment_of parts is_main g f ≡ s = answer (segment_of parts is_main g f) s made.2 in
-    let labels : (with_function f is_main (Some body) (no_lines out)).labels < 2 ^ 32 = subst (λ (b : Option Stmt). (with_function f is_main b (no_lines out)).labels < 2 ^ 32) there (few f made.1) in
-    let knows_here : Knows f (unit_of parts) n = subst (λ (p : Parts). KnowsBy (numbers_of p) (unit_of parts) n) (sym (frame_parts parts modes g f made.1)) knows in
-    let lines : AllWell n (with_function f is_main (Some body) (no_lines out)).lines = body_well n (unit_of parts) parts modes g body f is_main out knows_here well made.1 labels in
+    let labels : (with_function f is_main (Some body) (no_lines out)).labels < 2 ^ 32 = subst (λ (b : Option Stmt). (with_function f is_main b (no_lines out)).labels < 2 ^ 32) there made.few in
+    let knows_here : Knows f (unit_of parts) n = subst (λ (p : Parts). KnowsBy (numbers_of p) (unit_of parts) n) (sym (frame_parts parts modes g f made.framed)) knows in
+    let lines : AllWell n (with_function f is_main (Some body) (no_lines out)).lines = body_well n (unit_of parts) parts modes g body f is_main out knows_here well made.framed labels in
     let segment : IsSegment (with_function f is_main (Some body) (no_lines out)).lines = functions_are_segments (unit_of parts) g body f is_main out well (omega (arith, labels)) in
     let gives : IsLetters (with_function f is_main (Some body) (no_lines out)).out = subst IsLetters (sym (last_out f (ways 0 0 0) 0 body (entered f body out))) (registers_letters (bytes_or (types_of parts.types) (type_in (result_of g.ty)) 0)) in
     let whole : WellFunction n (name, record { lines = (with_function f is_main (Some body) (no_lines out)).lines; out = (with_function f is_main (Some body) (no_lines out)).out }) = record { known = known; gives = gives; lines = lines; segment = segment } in
     let given : WellFunction n (name, segment_of parts is_main g f) = subst (λ (b : Option Stmt). WellFunction n (name, record { lines = (with_function f is_main b (no_lines out)).lines; out = (with_function f is_main b (no_lines out)).out })) (sym there) whole in
-    subst (λ (z : Segment). WellFunction n (name, z)) same given
+    subst (λ (z : Segment). WellFunction n (name, z)) made.same given
 
 -- ---- all functions
 
@@ -209,16 +207,15 @@ abbrev first : Parts → ℕ
 first parts = length parts.objects.items + length parts.literals.items
 
 one_well : (n : ℕ) (parts : Parts) (is_main : Bool) (modes : Modes) (i : ℕ) (g : FuncTy) (b : Option Stmt) (fs out : List (Sym × Segment)) → KnowsBy (numbers_of parts) (unit_of parts) n → first parts + suc i ≤ n → n ≤ 2 ^ 32 → g.body ≡ b → HasBody (unit_of parts) g b
-    → ((f : Framed) → frame_of parts modes g ≡ Ok f → (with_function f is_main g.body (no_lines (gives_of parts g))).labels < 2 ^ 32)
     → one_more parts is_main modes (function_symbol (numbers_of parts) i) g b fs ≡ Ok out → AreFunctions n (first parts) (first parts + i) fs → AreFunctions n (first parts) (first parts + suc i) out
-one_well n parts is_main modes i g None fs out knows room most there has few h all =
+one_well n parts is_main modes i g None fs out knows room most there has h all =
     let wider : AreFunctions n (first parts) (first parts + suc i) fs = record { well = all.well; rises = rises_wider key (first parts) (first parts + i) (first parts + suc i) fs (omega arith) all.rises } in
     subst (AreFunctions n (first parts) (first parts + suc i)) (answer fs out h) wider
-one_well n parts is_main modes i g (Some body) fs out knows room most there has few h all =
+one_well n parts is_main modes i g (Some body) fs out knows room most there has h all =
     let s : Sym = function_symbol (numbers_of parts) i in
     let made : (z : Segment) × (function_of parts is_main modes g ≡ Ok z) × (◌≡◌ {A = Result (List (Sym × Segment)) Fault} (Ok (fs ++ (s, z) ∷ [])) (Ok out)) = bound (function_of parts is_main modes g) (λ z. Ok (fs ++ (s, z) ∷ [])) out h in
     let at : s.0 ≡ first parts + i = omega (arith, room, most) in
-    let here : WellFunction n (s, made.0) = segment_well n parts is_main modes g body made.0 s knows there has (omega (arith, at, room)) few made.1 in
+    let here : WellFunction n (s, made.0) = segment_well n parts is_main modes g body made.0 s knows there has (omega (arith, at, room)) made.1 in
     let more : AreFunctions n (first parts) (first parts + suc i) (fs ++ (s, made.0) ∷ []) = record {
       well = every_append (WellFunction n) fs ((s, made.0) ∷ []) all.well (here, tt);
       rises = rises_more key (first parts) (first parts + i) (first parts + suc i) fs (s, made.0) all.rises (omega (arith, at)) (omega (arith, at));
@@ -226,14 +223,13 @@ one_well n parts is_main modes i g (Some body) fs out knows room most there has 
     subst (AreFunctions n (first parts) (first parts + suc i)) (answer (fs ++ (s, made.0) ∷ []) out made.2) more
 
 pub functions_well : (n : ℕ) (parts : Parts) (main : ℕ) (modes : Modes) (i : ℕ) (gs : List TFunc) (fs out : List (Sym × Segment)) → KnowsBy (numbers_of parts) (unit_of parts) n → first parts + i + length gs ≤ n → n ≤ 2 ^ 32 → Every (λ g. IsFunc (unit_of parts) (func_of g)) gs
-    → ((k : ℕ) (g : TFunc) → slice_get parts.funcs.items k ≡ Some g → UsesFewLabels parts main modes k (func_of g)) → IsRest parts.funcs.items i gs
     → functions_from parts main modes i gs fs ≡ Ok out → AreFunctions n (first parts) (first parts + i) fs → AreFunctions n (first parts) (first parts + i + length gs) out
-functions_well n parts main modes i [] fs out knows room most typed few rest h all =
+functions_well n parts main modes i [] fs out knows room most typed h all =
     let wider : AreFunctions n (first parts) (first parts + i + 0) fs = record { well = all.well; rises = rises_wider key (first parts) (first parts + i) (first parts + i + 0) fs (omega arith) all.rises } in
     subst (AreFunctions n (first parts) (first parts + i + 0)) (answer fs out h) wider
-functions_well n parts main modes i (g ∷ gs) fs out knows room most typed few rest h all =
+functions_well n parts main modes i (g ∷ gs) fs out knows room most typed h all =
     let made : (x : List (Sym × Segment)) × (function_added parts main modes i (func_of g) fs ≡ Ok x) × (functions_from parts main modes (suc i) gs x ≡ Ok out) = bound (function_added parts main modes i (func_of g) fs) (functions_from parts main modes (suc i) gs) out h in
     let next : List (Sym × Segment) = made.0 in
-    let here : AreFunctions n (first parts) (first parts + suc i) next = one_well n parts (i == main) modes i (func_of g) (func_of g).body fs next knows (omega (arith, room)) most refl typed.0.body (few i g (rest_first parts.funcs.items i g gs rest)) made.1 all in
-    let rest_well : AreFunctions n (first parts) (first parts + suc i + length gs) out = functions_well n parts main modes (suc i) gs next out knows (omega (arith, room)) most typed.1 few (rest_next parts.funcs.items i g gs rest) made.2 here in
+    let here : AreFunctions n (first parts) (first parts + suc i) next = one_well n parts (i == main) modes i (func_of g) (func_of g).body fs next knows (omega (arith, room)) most refl typed.0.body made.1 all in
+    let rest_well : AreFunctions n (first parts) (first parts + suc i + length gs) out = functions_well n parts main modes (suc i) gs next out knows (omega (arith, room)) most typed.1 made.2 here in
     record { well = rest_well.well; rises = rises_wider key (first parts) (first parts + suc i + length gs) (first parts + i + suc (length gs)) out (omega arith) rest_well.rises }

@@ -28,7 +28,7 @@ use Rattle.c65_asm.proofs.ReadLaws.{text_read}
 use Rattle.c65_asm_law.specs.Laws.{IsPrintable, ProgramsAreWritable, ProgramsReadBack}
 use Rattle.c65_asm_law.proofs.Well.{WellOperand, Well, EachWell, AllWell}
 use Rattle.c65_asm_law.proofs.Known.{KnowsBy}
-use Rattle.c65_asm_law.proofs.Lists.{Every, every_at, every_all, every_map, rises_at, rises_once, rest_whole}
+use Rattle.c65_asm_law.proofs.Lists.{Every, every_at, every_all, every_map, rises_at, rises_once}
 use Rattle.c65_asm_law.proofs.Symbols.{symbols_count, symbols_are_spelled, symbols_are_marked, symbols_are_apart}
 use Rattle.c65_asm_law.proofs.Data.{WellCell, WellDatum, AreData, program_data}
 use Rattle.c65_asm_law.proofs.Data as data_items
@@ -106,17 +106,17 @@ bound (Err e) k y h = absurd cc
 answer : {A : Type 0} (x y : A) → ◌≡◌ {A = Result A Fault} (Ok x) (Ok y) → x ≡ y
 answer x y h = cc
 
-made : (parts : Parts) (main : ℕ) (names : List (List ℕ)) (modes : Modes) (code : Code) → IsPrintable names parts main modes → program_of parts main names modes ≡ Ok code → IsMade names parts main code
+made : (parts : Parts) (main : ℕ) (names : List (List ℕ)) (modes : Modes) (code : Code) → IsPrintable names parts → program_of parts main names modes ≡ Ok code → IsMade names parts main code
 made parts main names modes code named h =
     let n : ℕ = length (symbols_of names parts) in
     let first : ℕ = length parts.objects.items + length parts.literals.items in
     let count : n ≡ first + length parts.funcs.items = symbols_count names parts in
-    let few : n ≤ 2 ^ 32 = omega (arith, count, named.numbers.items) in
+    let few : n ≤ 2 ^ 32 = omega (arith, count, named.few) in
     let knows : KnowsBy (numbers_of parts) (unit_of parts) n = knows_parts n parts count in
     let two : (fs : List (Sym × Segment)) × (functions_of parts main modes ≡ Ok fs) × (◌≡◌ {A = Result Code Fault} (Ok (code_of parts main names fs)) (Ok code)) = bound (functions_of parts main modes) (λ fs. Ok (code_of parts main names fs)) code h in
     let none : AreFunctions n first (first + 0) [] = record { well = tt; rises = omega arith } in
     let typed : Every (λ g. IsFunc (unit_of parts) (func_of g)) parts.funcs.items = every_map (IsFunc (unit_of parts)) func_of parts.funcs.items (every_all (IsFunc (unit_of parts)) (map func_of parts.funcs.items) named.unit.funcs) in
-    let functions : AreFunctions n first (first + 0 + length parts.funcs.items) two.0 = functions_well n parts main modes 0 parts.funcs.items [] two.0 knows (omega (arith, count)) few typed named.numbers.labels (rest_whole parts.funcs.items) two.1 none in
+    let functions : AreFunctions n first (first + 0 + length parts.funcs.items) two.0 = functions_well n parts main modes 0 parts.funcs.items [] two.0 knows (omega (arith, count)) few typed two.1 none in
     let end : first + 0 + length parts.funcs.items ≡ n = omega (arith, count) in
     record {
       functions = two.0;
@@ -127,11 +127,11 @@ made parts main names modes code named h =
 
 -- ---- the laws
 
-writable : (names : List (List ℕ)) (parts : Parts) (main : ℕ) (modes : Modes) (code : Code) → IsPrintable names parts main modes → (m : IsMade names parts main code) → IsWritable (code_of parts main names m.functions)
+writable : (names : List (List ℕ)) (parts : Parts) (main : ℕ) (modes : Modes) (code : Code) → IsPrintable names parts → (m : IsMade names parts main code) → IsWritable (code_of parts main names m.functions)
 writable names parts main modes code named m =
     let n : ℕ = length (symbols_of names parts) in
     let first : ℕ = length parts.objects.items + length parts.literals.items in
-    let few : n ≤ 2 ^ 32 = omega (arith, symbols_count names parts, named.numbers.items) in
+    let few : n ≤ 2 ^ 32 = omega (arith, symbols_count names parts, named.few) in
     record {
       spelled = λ i s is. symbols_are_spelled names parts i s named.spelled (omega (arith, few, slice_get_within (symbols_of names parts) i s is)) is;
       marked = λ i s is. symbols_are_marked names parts i s (omega (arith, few, slice_get_within (symbols_of names parts) i s is)) is;

@@ -91,7 +91,7 @@ stored names parts o h = record {
 }
 
 pub plain_programs_are_writable : ProgramsAreWritable → PlainProgramsAreWritable
-plain_programs_are_writable written parts main names modes code well plain_is spelled labels h =
+plain_programs_are_writable written parts main names modes code well plain_is spelled h =
     let objects : length (map object_of parts.objects.items) ≡ length parts.objects.items = length-map parts.objects.items object_of in
     let funcs : length (map func_of parts.funcs.items) ≡ length parts.funcs.items = length-map parts.funcs.items func_of in
     let few = plain_is.few in
@@ -100,5 +100,5 @@ plain_programs_are_writable written parts main names modes code well plain_is sp
       unit = well.unit;
       spelled = spelled;
       stored = record { objects = All-weaker (plain.IsPlainObject names (unit_of parts)) (IsStored parts) (λ o k. stored names parts o k) (unit_of parts).objects plain_is.objects; literals = plain_is.literals };
-      numbers = record { labels = labels; items = omega (arith, objects, funcs, few) };
+      few = omega (arith, objects, funcs, few);
     }) h

@@ -1,5 +1,5 @@
 -- The functions of a program's code stand where their symbols say.
-use Rattle.std.proofs.Common.{◌≡◌, ℕ, zero, suc, ◌+◌, ◌<◌, ◌==◌, Bool, Option, None, Some, List, [], ◌∷◌, ◌++◌, length, slice_get, refl, sym, ap, subst, ◌∙◌, arith}
+use Rattle.std.proofs.Common.{◌≡◌, ℕ, zero, suc, ◌+◌, ◌^◌, ◌<◌, ◌≤◌, ◌==◌, Bool, Option, None, Some, List, [], ◌∷◌, ◌++◌, length, slice_get, refl, sym, ap, subst, ◌∙◌, arith}
 use Rattle.std.specs.Prelude.{Result, Ok, Err, option_map, if◌then◌else◌}
 use Rattle.std.proofs.lemmas.Bool.{eq-eqb, ne_eqb}
 use Rattle.std.proofs.lemmas.Option.{slice_get-map, slice_get_within}
@@ -12,12 +12,13 @@ use Rattle.c65_csem.specs.Views.{func_of, unit_of}
 use Rattle.c65_code.specs.declared.code.Code.{Code}
 use Rattle.c65_code.specs.declared.line.Sym.{Sym}
 use Rattle.c65_code.specs.Placement as placement
-use Rattle.c65_code.specs.Segments.{Segment}
+use Rattle.c65_code.specs.Segments.{Segment, Drafted}
 use Rattle.c65_genframe.specs.declared.modes.Modes.{Modes}
 use Rattle.c65_genframe.specs.Frames.{Framed, frame_of}
 use Rattle.c65_genframe.specs.Symbols.{numbers_of, function_symbol}
 use Rattle.c65_genstmt.specs.Functions.{gives_of, no_lines, with_function, segment_of, function_of}
 use Rattle.c65_genstmt.specs.Programs.{one_more, function_added, functions_from, functions_of, code_of}
+use Rattle.c65_genstmt.proofs.Made.{IsMade, function_is_made}
 use Rattle.c65_gen_law_stack.proofs.FunctionLevels.{functions_are_level}
 use Rattle.c65_gen_law_calls.specs.Travels.{Program, Compiled}
 use Rattle.c65_gen_law_calls.specs.Programs.{ProgramsAreCompiled}
@@ -119,13 +120,18 @@ record Lines (p : Program) (i : ℕ) (g : FuncTy) (body : Stmt) (s : Segment) : 
   frame : Framed
   framed : frame_of p.parts p.modes g ≡ Ok frame
   lines : s.lines ≡ (with_function frame (i == p.main) (Some body) (no_lines (gives_of p.parts g))).lines
+  few : (with_function frame (i == p.main) (Some body) (no_lines (gives_of p.parts g))).labels ≤ 2 ^ 32
 
 made_lines : (p : Program) (i : ℕ) (g : FuncTy) (body : Stmt) (s : Segment) → g.body ≡ Some body → function_of p.parts (i == p.main) p.modes g ≡ Ok s → Lines p i g body s
-unfolding function_of
 made_lines p i g body s some h =
-    let made : (f : Framed) × (frame_of p.parts p.modes g ≡ Ok f) × (◌≡◌ {A = Result Segment Fault} (Ok (segment_of p.parts (i == p.main) g f)) (Ok s)) = bound (frame_of p.parts p.modes g) (λ f. Ok (segment_of p.parts (i == p.main) g f)) s h in
-    let same : segment_of p.parts (i == p.main) g made.0 ≡ s = answer (segment_of p.parts (i == p.main) g made.0) s made.2 in
-    record { frame = made.0; framed = made.1; lines = sym (ap (λ (z : Segment). z.lines) same) ∙ ap (λ (b : Option Stmt). (with_function made.0 (i == p.main) b (no_lines (gives_of p.parts g))).lines) some }
+    let made : IsMade p.parts (i == p.main) p.modes g s = function_is_made p.parts (i == p.main) p.modes g s h in
+    let bodied : (b : Option Stmt) → Drafted = λ b. with_function made.frame (i == p.main) b (no_lines (gives_of p.parts g)) in
+    record {
+      frame = made.frame;
+      framed = made.framed;
+      lines = sym (ap (λ (z : Segment). z.lines) made.same) ∙ ap (λ (b : Option Stmt). (bodied b).lines) some;
+      few = omega (arith, made.few, ap (λ (b : Option Stmt). (bodied b).labels) some);
+    }
 
 item_of : (parts : Parts) (i : ℕ) (g : FuncTy) (o : Option TFunc) → slice_get parts.funcs.items i ≡ o → slice_get (unit_of parts).funcs i ≡ Some g → (t : TFunc) × (slice_get parts.funcs.items i ≡ Some t) × (func_of t ≡ g)
 item_of parts i g None is e = absurd (let none : slice_get (unit_of parts).funcs i ≡ None = slice_get-map func_of parts.funcs.items i ∙ ap (option_map func_of) is in cc)
@@ -134,7 +140,7 @@ item_of parts i g (Some t) is e =
     (t, is, cc)
 
 pub programs_are_compiled : ProgramsAreCompiled
-programs_are_compiled p names code place i g body h unit few found some labels =
+programs_are_compiled p names code place i g body h unit few found some =
     let made : (fs : Placed) × (functions_of p.parts p.main p.modes ≡ Ok fs) × (◌≡◌ {A = Result Code Fault} (Ok (code_of p.parts p.main names fs)) (Ok code)) = bound (functions_of p.parts p.main p.modes) (λ fs. Ok (code_of p.parts p.main names fs)) code h in
     let same : made.0 ≡ code.functions = ap (λ (c : Code). c.functions) (answer (code_of p.parts p.main names made.0) code made.2) in
     let item = item_of p.parts i g (slice_get p.parts.funcs.items i) refl found in
@@ -145,7 +151,7 @@ programs_are_compiled p names code place i g body h unit few found some labels =
     let function : function_of p.parts (i == p.main) p.modes g ≡ Ok at.segment = ap (λ (f : FuncTy). function_of p.parts (i == p.main) p.modes f) (sym item.2) ∙ at.made in
     let lines : Lines p i g body at.segment = made_lines p i g body at.segment some function in
     let well : IsBody (unit_of p.parts) g body = subst (λ (b : Option Stmt). HasBody (unit_of p.parts) g b) some (func_in (unit_of p.parts) i g unit.funcs found).body in
-    let level = functions_are_level (unit_of p.parts) g body lines.frame (i == p.main) (gives_of p.parts g) well (labels lines.frame lines.framed) in
+    let level = functions_are_level (unit_of p.parts) g body lines.frame (i == p.main) (gives_of p.parts g) well lines.few in
     let c : Compiled = record { index = i; func = g; body = body; frame = lines.frame; middle = level.0 } in
     let placed : (placement.segment_of code.functions (number p.parts i)).lines ≡ at.segment.lines = ap (λ (l : Placed). (placement.segment_of l (number p.parts i)).lines) (sym same) ∙ ap (λ (z : Segment). z.lines) at.found in
-    (c, refl, refl, refl, record { found = found; has_body = some; framed = lines.framed; lines = placed ∙ lines.lines; split = level.1; few = labels lines.frame lines.framed })
+    (c, refl, refl, refl, record { found = found; has_body = some; framed = lines.framed; lines = placed ∙ lines.lines; split = level.1; few = lines.few })

@@ -12,9 +12,10 @@ use Rattle.c65_code.specs.Segments.{Segment}
 use Rattle.c65_code.specs.Weights.{lines_size, functions_size, extent_of}
 use Rattle.c65_genframe.specs.declared.modes.Modes.{Modes}
 use Rattle.c65_genframe.specs.Symbols.{numbers_of, function_symbol}
-use Rattle.c65_genframe.specs.Frames.{Framed, frame_of}
+use Rattle.c65_genframe.specs.Frames.{Framed}
 use Rattle.c65_genstmt.specs.Functions.{gives_of, no_lines, with_function, segment_of, function_of}
 use Rattle.c65_genstmt.specs.Programs.{one_more, function_added, functions_from, functions_of, code_of}
+use Rattle.c65_genstmt.proofs.Made.{IsMade, function_is_made}
 use Rattle.c65_gen_law_lines.specs.Bulk.{body_nodes, function_nodes, functions_nodes}
 use Rattle.c65_gen_law_lines.specs.Laws.{ProgramsAreSmall}
 use Rattle.c65_gen_law_lines.proofs.SizeLaws.{functions_are_small}
@@ -33,15 +34,13 @@ pub answer : {A : Type 0} (x y : A) → ◌≡◌ {A = Result A Fault} (Ok x) (O
 answer x y h = cc
 
 segment_small : (parts : Parts) (is_main : Bool) (modes : Modes) (g : FuncTy) (body : Stmt) (s : Segment) → g.body ≡ Some body → function_of parts is_main modes g ≡ Ok s → lines_size s.lines ≤ 128 * function_nodes g
-unfolding function_of
 segment_small parts is_main modes g body s there h =
-    let made : (f : Framed) × (frame_of parts modes g ≡ Ok f) × (◌≡◌ {A = Result Segment Fault} (Ok (segment_of parts is_main g f)) (Ok s)) = bound (frame_of parts modes g) (λ f. Ok (segment_of parts is_main g f)) s h in
-    let f : Framed = made.0 in
-    let same : segment_of parts is_main g f ≡ s = answer (segment_of parts is_main g f) s made.2 in
-    let sizes : lines_size (segment_of parts is_main g f).lines ≡ lines_size s.lines = ap (λ z. lines_size z.lines) same in
+    let made : IsMade parts is_main modes g s = function_is_made parts is_main modes g s h in
+    let f : Framed = made.frame in
+    let sizes : lines_size (segment_of parts is_main g f).lines ≡ lines_size s.lines = ap (λ z. lines_size z.lines) made.same in
     let bodies : lines_size (with_function f is_main g.body (no_lines (gives_of parts g))).lines ≡ lines_size (with_function f is_main (Some body) (no_lines (gives_of parts g))).lines = ap (λ z. lines_size (with_function f is_main z (no_lines (gives_of parts g))).lines) there in
     let nodes : function_nodes g ≡ body_nodes g (Some body) = ap (body_nodes g) there in
-    omega (arith, sizes, bodies, nodes, functions_are_small parts modes g body f is_main (gives_of parts g) made.1)
+    omega (arith, sizes, bodies, nodes, functions_are_small parts modes g body f is_main (gives_of parts g) made.framed)
 
 one_small : (parts : Parts) (is_main : Bool) (modes : Modes) (sym : Sym) (g : FuncTy) (b : Option Stmt) (fs out : List (Sym × Segment)) → g.body ≡ b → one_more parts is_main modes sym g b fs ≡ Ok out → functions_size out ≤ functions_size fs + 128 * function_nodes g
 one_small parts is_main modes sym g None fs out there h =

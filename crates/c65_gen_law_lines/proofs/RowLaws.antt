@@ -14,7 +14,7 @@ use Rattle.c65_code.specs.Processors.{is_nmos_line}
 use Rattle.c65_code.specs.Segments.{Drafted, Segment}
 use Rattle.c65_genframe.specs.declared.modes.Modes.{Modes}
 use Rattle.c65_genframe.specs.Symbols.{numbers_of, function_symbol}
-use Rattle.c65_genframe.specs.Frames.{Framed, frame_of}
+use Rattle.c65_genframe.specs.Frames.{Framed}
 use Rattle.c65_genwide.specs.Lines.{with_lines}
 use Rattle.c65_genwide.specs.Wide.{width_of}
 use Rattle.c65_genexpr.specs.Types.{kind_in}
@@ -26,8 +26,9 @@ use Rattle.c65_genstmt.specs.Jumps.{following, with_value, with_test}
 use Rattle.c65_genstmt.specs.Objects.{spot_of, object_bytes}
 use Rattle.c65_genstmt.specs.Stmts.{case_behind, with_label, with_jump, two_given, three_given, with_maybe, with_effects, with_guard, ways, default_way, with_stmt, with_stmts, with_last, with_lasts, returns_last, is_empty, with_way, with_cases}
 use Rattle.c65_genstmt.specs.Cases.{room_of}
-use Rattle.c65_genstmt.specs.Functions.{gives_of, main_code, no_lines, with_function, segment_of, function_of}
+use Rattle.c65_genstmt.specs.Functions.{gives_of, main_code, no_lines, with_function, function_of}
 use Rattle.c65_genstmt.specs.Programs.{one_more, function_added, functions_from, functions_of, code_of}
+use Rattle.c65_genstmt.proofs.Made.{IsMade, function_is_made}
 use Rattle.c65_code.specs.declared.parts.RegSet.{RegSet}
 use Rattle.c65_gen_law_lines.specs.Laws.{ProgramsAreNmos}
 use Rattle.c65_gen_law_lines.proofs.Made.{is_early, all_nmos}
@@ -136,12 +137,10 @@ function_rows f is_main body out =
     (puts_flat m3 (end_code f) (end_flat f)).fit ((puts_label m2 0).fit k2)
 
 segment_rows : (parts : Parts) (is_main : Bool) (modes : Modes) (g : FuncTy) (body : Stmt) (s : Segment) → g.body ≡ Some body → function_of parts is_main modes g ≡ Ok s → list_all is_nmos_line s.lines ≡ true
-unfolding function_of
 segment_rows parts is_main modes g body s there h =
-    let made : (f : Framed) × (frame_of parts modes g ≡ Ok f) × (◌≡◌ {A = Result Segment Fault} (Ok (segment_of parts is_main g f)) (Ok s)) = bound (frame_of parts modes g) (λ f. Ok (segment_of parts is_main g f)) s h in
-    let f : Framed = made.0 in
-    let same : segment_of parts is_main g f ≡ s = answer (segment_of parts is_main g f) s made.2 in
-    ap (λ (z : Segment). list_all is_nmos_line z.lines) (sym same)
+    let made : IsMade parts is_main modes g s = function_is_made parts is_main modes g s h in
+    let f : Framed = made.frame in
+    ap (λ (z : Segment). list_all is_nmos_line z.lines) (sym made.same)
     ∙ ap (λ (z : Option Stmt). list_all is_nmos_line (with_function f is_main z (no_lines (gives_of parts g))).lines) there
     ∙ all_nmos (with_function f is_main (Some body) (no_lines (gives_of parts g))).lines (function_rows f is_main body (gives_of parts g))
 

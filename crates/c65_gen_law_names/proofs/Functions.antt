@@ -18,6 +18,7 @@ use Rattle.c65_genstmt.specs.Cases.{room_of}
 use Rattle.c65_genstmt.specs.Stmts.{with_label, ways, with_last, returns_last}
 use Rattle.c65_genstmt.specs.Functions.{gives_of, main_code, no_lines, with_function, segment_of, function_of}
 use Rattle.c65_genstmt.specs.Programs.{one_more, function_added, functions_from}
+use Rattle.c65_genstmt.proofs.Made.{IsMade, function_is_made}
 use Rattle.c65_gen_law_names.specs.Trees.{KnownStmt}
 use Rattle.c65_gen_law_names.proofs.Known.{AllKnown, known_none, known_then}
 use Rattle.c65_gen_law_names.proofs.Entries.{end_known, entry_known}
@@ -52,14 +53,9 @@ module _ (P : ℕ → Type 0) (parts : Parts) (main : ℕ) (modes : Modes) where
   segment_known is_main g b body f e same h = subst (λ (o : Option Stmt). AllKnown P (with_function f is_main o (no_lines (gives_of parts g))).lines) (sym (e ∙ same)) (body_known P f is_main body (gives_of parts g) h)
 
   made_known : (is_main : Bool) (g : FuncTy) (body : Stmt) (s : Segment) → g.body ≡ Some body → KnownBody P parts modes g → function_of parts is_main modes g ≡ Ok s → AllKnown P s.lines
-  unfolding function_of
-  made_known is_main g body s e h made = go (frame_of parts modes g) refl made
-    where
-      go : (r : Result Framed Fault) → frame_of parts modes g ≡ r → (r >>= λ f. Ok (segment_of parts is_main g f)) ≡ Ok s → AllKnown P s.lines
-      go (Err why) framed made = absurd cc
-      go (Ok f) framed made =
-          let same : segment_of parts is_main g f ≡ s = cc in
-          subst (λ (z : Segment). AllKnown P z.lines) same (segment_known is_main g (Some body) body f e refl (h body f e framed))
+  made_known is_main g body s e h made =
+      let is : IsMade parts is_main modes g s = function_is_made parts is_main modes g s made in
+      subst (λ (z : Segment). AllKnown P z.lines) is.same (segment_known is_main g (Some body) body is.frame e refl (h body is.frame e is.framed))
 
   one_known : (is_main : Bool) (x : Sym) (g : FuncTy) (b : Option Stmt) (fs out : List (Sym × Segment)) → g.body ≡ b → KnownBody P parts modes g → one_more parts is_main modes x g b fs ≡ Ok out → Every (KnownFunction P) fs → Every (KnownFunction P) out
   one_known is_main x g None fs out e h made all = let same : fs ≡ out = cc in subst (Every (KnownFunction P)) same all

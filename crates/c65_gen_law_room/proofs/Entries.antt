@@ -23,12 +23,12 @@ use Rattle.c65_gen_law_room.proofs.Marked.{in_bank, all_spent, all_banked}
 
 -- ---- parameters that move
 
-moved_more : (ms : List Moved) (m : Moved) → moved_bytes (ms ++ m ∷ []) ≡ moved_bytes ms + m.bytes
+pub moved_more : (ms : List Moved) (m : Moved) → moved_bytes (ms ++ m ∷ []) ≡ moved_bytes ms + m.bytes
 moved_more [] m = omega arith
 moved_more (x ∷ ms) m = omega (arith, moved_more ms m)
 
 -- the same homes in regbank
-abbrev SameBank : List (Option Home) → List (Option Home) → Type 0
+abbrev pub SameBank : List (Option Home) → List (Option Home) → Type 0
 SameBank a b = (k n : ℕ) → bytes_there n (flat (slice_get a k)) ≡ bytes_there n (flat (slice_get b k))
 
 soft_set : (hs : List (Option Home)) (k d o : ℕ) → slice_get hs k ≡ Some (Some (Soft o)) → SameBank (slice_set hs k (Some (Soft d))) hs
@@ -50,7 +50,7 @@ arrives from at bank left (Some (Some (Soft o))) a e = record { homes = soft_set
 arrives from at bank left (Some None) a e = record { homes = λ k n. refl; moved = omega arith }
 arrives from at bank left None a e = record { homes = λ k n. refl; moved = omega arith }
 
-all_arrive : (parts : Parts) (prototype : Bool) (low base : ℕ) (hs : List (Option Home)) (ps : List ℕ) (a : Arrivals) → SameBank a.homes hs → moved_bytes (arrived parts prototype low base ps a).moved ≡ moved_bytes a.moved + in_bank parts low hs ps
+pub all_arrive : (parts : Parts) (prototype : Bool) (low base : ℕ) (hs : List (Option Home)) (ps : List ℕ) (a : Arrivals) → SameBank a.homes hs → moved_bytes (arrived parts prototype low base ps a).moved ≡ moved_bytes a.moved + in_bank parts low hs ps
 all_arrive parts prototype low base hs [] a same = omega arith
 all_arrive parts prototype low base hs (i ∷ ps) a same =
     let slot : ℕ = slot_bytes (types_of parts.types) prototype (object_in parts i) in
@@ -96,7 +96,7 @@ chosen : (b : Bool) (o : Option ℕ) (i : ℕ) → (if b then None else o) ≡ S
 chosen true o i e = absurd cc
 chosen false o i e = e
 
-kept_by : (parts : Parts) (prototype : Bool) (low : ℕ) (hs : List (Option Home)) (g : FuncTy) (o : Option ℕ) → register_param g ≡ o
+pub kept_by : (parts : Parts) (prototype : Bool) (low : ℕ) (hs : List (Option Home)) (g : FuncTy) (o : Option ℕ) → register_param g ≡ o
     → in_bank parts low hs g.params ≡ in_bank parts low hs (without_last (is_kept (arrival parts prototype low hs o)) g.params) + kept_bytes (arrival parts prototype low hs o)
 kept_by parts prototype low hs g None e = omega arith
 kept_by parts prototype low hs g (Some i) e = kept_there parts prototype low i hs g.params (home_at low hs i) (chosen (takes_stack g.ty) (slice_get g.params (length g.params - 1)) i e) refl

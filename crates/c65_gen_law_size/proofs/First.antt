@@ -1,7 +1,7 @@
--- The first function whose frame is too large is the one for which a program is refused.
-use Rattle.std.proofs.Common.{◌≡◌, ℕ, zero, suc, ◌<◌, ◌==◌, Bool, true, false, Option, None, Some, Result, Ok, Err, List, [], ◌∷◌, ◌++◌, refl, sym, ◌∙◌, ap, subst, slice_get, arith}
+-- The first function that has no frame, or too many labels, is the one for which a program is refused.
+use Rattle.std.proofs.Common.{◌≡◌, ℕ, zero, suc, ◌+◌, ◌<◌, ◌==◌, Bool, true, false, Option, None, Some, Result, Ok, Err, List, [], ◌∷◌, ◌++◌, refl, sym, ◌∙◌, ap, subst, slice_get, ◌⊎◌, inl, inr, arith}
 use Rattle.std.specs.Prelude.{if◌then◌else◌, nat_lt, IsSome}
-use Rattle.std.proofs.lemmas.Bool.{ltb-true}
+use Rattle.std.proofs.lemmas.Bool.{ltb-true, ltb-false, lt-ltb, le-ltb}
 use Rattle.c65_base.specs.declared.refusal.Size.TheVariants as sizes
 use Rattle.c65_base.specs.Answers.{Fault, large, ◌>>=◌}
 use Rattle.c65_csem.specs.declared.items.Parts.{Parts}
@@ -9,126 +9,168 @@ use Rattle.c65_csem.specs.declared.items.TFunc.{TFunc}
 use Rattle.c65_csem.specs.Trees.{Stmt, FuncTy}
 use Rattle.c65_csem.specs.Views.{func_of}
 use Rattle.c65_code.specs.declared.line.Sym.{Sym}
-use Rattle.c65_code.specs.Segments.{Segment}
+use Rattle.c65_code.specs.Segments.{Segment, Drafted}
 use Rattle.c65_genframe.specs.declared.modes.Modes.{Modes}
 use Rattle.c65_genframe.specs.Symbols.{numbers_of, function_symbol}
 use Rattle.c65_genframe.specs.Marks.{lowest}
 use Rattle.c65_genframe.specs.Objects.{locals_of}
 use Rattle.c65_genframe.specs.Frames.{Framed, frame_of, placed_in, passed_bytes, check_of, settled}
-use Rattle.c65_genstmt.specs.Functions.{segment_of, function_of}
+use Rattle.c65_genstmt.specs.Functions.{closed, finished, drafted_of, segment_of, function_of}
 use Rattle.c65_genstmt.specs.Programs.{one_more, functions_from, functions_of, code_of}
-use Rattle.c65_gen_law_size.specs.First.{HasFrame, IsFirst, TheFirstLargeFrameIsRefused, FramesAreRefusedAboveTheirLimit}
-
--- ---- one function
-
-by_frame : (parts : Parts) (is_main : Bool) (modes : Modes) (g : FuncTy) → function_of parts is_main modes g ≡ (frame_of parts modes g >>= (λ f. Ok (segment_of parts is_main g f)))
-unfolding function_of
-by_frame parts is_main modes g = refl
-
-without_frame : (parts : Parts) (is_main : Bool) (modes : Modes) (g : FuncTy) (reason : Fault) → frame_of parts modes g ≡ Err reason → function_of parts is_main modes g ≡ Err reason
-without_frame parts is_main modes g reason h = by_frame parts is_main modes g ∙ ap (λ (r : Result Framed Fault). r >>= (λ f. Ok (segment_of parts is_main g f))) h
-
-with_frame : (parts : Parts) (is_main : Bool) (modes : Modes) (g : FuncTy) (f : Framed) → frame_of parts modes g ≡ Ok f → function_of parts is_main modes g ≡ Ok (segment_of parts is_main g f)
-with_frame parts is_main modes g f h = by_frame parts is_main modes g ∙ ap (λ (r : Result Framed Fault). r >>= (λ x. Ok (segment_of parts is_main g x))) h
-
-abbrev Functions : Type 0
-Functions = List (Sym × Segment)
-
--- the functions of a list, where the first one has this body
-abbrev onward : Parts → ℕ → Modes → ℕ → FuncTy → Option Stmt → List TFunc → Functions → Result Functions Fault
-onward parts main modes i g b gs fs = one_more parts (i == main) modes (function_symbol (numbers_of parts) i) g b fs >>= functions_from parts main modes (suc i) gs
-
-stopped : (parts : Parts) (main : ℕ) (modes : Modes) (i : ℕ) (g : FuncTy) (body : Stmt) (gs : List TFunc) (fs : Functions) (reason : Fault) → frame_of parts modes g ≡ Err reason → onward parts main modes i g (Some body) gs fs ≡ Err reason
-stopped parts main modes i g body gs fs reason h =
-    ap (λ (r : Result Segment Fault). (r >>= (λ s. Ok (fs ++ (function_symbol (numbers_of parts) i, s) ∷ []))) >>= functions_from parts main modes (suc i) gs) (without_frame parts (i == main) modes g reason h)
-
-abbrev with_one : Parts → ℕ → ℕ → FuncTy → Framed → Functions → Functions
-with_one parts main i g f fs = fs ++ (function_symbol (numbers_of parts) i, segment_of parts (i == main) g f) ∷ []
-
-gone_on : (parts : Parts) (main : ℕ) (modes : Modes) (i : ℕ) (g : FuncTy) (body : Stmt) (gs : List TFunc) (fs : Functions) (f : Framed) → frame_of parts modes g ≡ Ok f → onward parts main modes i g (Some body) gs fs ≡ functions_from parts main modes (suc i) gs (with_one parts main i g f fs)
-gone_on parts main modes i g body gs fs f h =
-    ap (λ (r : Result Segment Fault). (r >>= (λ s. Ok (fs ++ (function_symbol (numbers_of parts) i, s) ∷ []))) >>= functions_from parts main modes (suc i) gs) (with_frame parts (i == main) modes g f h)
-
--- ---- found
-
--- what is so before a place behind the head of a list is so of the head and before the place in the rest
-before_cons : (parts : Parts) (modes : Modes) (g : TFunc) (gs : List TFunc) (n : ℕ) → (IsSome (func_of g).body → HasFrame parts modes (func_of g)) → ((j : ℕ) (x : TFunc) → j < n → slice_get gs j ≡ Some x → IsSome (func_of x).body → HasFrame parts modes (func_of x))
-    → (j : ℕ) (x : TFunc) → j < suc n → slice_get (g ∷ gs) j ≡ Some x → IsSome (func_of x).body → HasFrame parts modes (func_of x)
-before_cons parts modes g gs n head rest zero x lt at body =
-    let same : g ≡ x = cc in
-    subst (λ (y : TFunc). IsSome (func_of y).body → HasFrame parts modes (func_of y)) same head body
-before_cons parts modes g gs n head rest (suc j) x lt at body = rest j x (omega (arith, lt)) at body
-
-later : (parts : Parts) (modes : Modes) (reason : Fault) (g : TFunc) (gs : List TFunc) → (IsSome (func_of g).body → HasFrame parts modes (func_of g)) → IsFirst parts modes reason gs → IsFirst parts modes reason (g ∷ gs)
-later parts modes reason g gs head k = record {
-  place = suc k.place;
-  function = k.function;
-  there = k.there;
-  body = k.body;
-  refused = k.refused;
-  before = before_cons parts modes g gs k.place head k.before;
-}
-
-nobody : (b : Option Stmt) (P : Type 0) → b ≡ None → IsSome b → P
-nobody None P e h = absurd cc
-nobody (Some s) P e h = absurd cc
-
-somebody : (b : Option Stmt) (s : Stmt) → b ≡ Some s → IsSome b
-somebody None s e = absurd cc
-somebody (Some t) s e = refl
+use Rattle.c65_genstmt.proofs.Made.{IsMade, function_is_made}
+use Rattle.c65_gen_law_size.specs.First.{HasLines, HasManyLabels, IsFirst, TheFirstLargeFrameIsRefused, FramesAreRefusedAboveTheirLimit}
 
 same_reason : {A : Type 0} (x y : Fault) → ◌≡◌ {A = Result A Fault} (Err x) (Err y) → x ≡ y
 same_reason x y h = cc
 
-first_by : (parts : Parts) (main : ℕ) (modes : Modes) (i : ℕ) (g : TFunc) (gs : List TFunc) (fs : Functions) (reason : Fault) (b : Option Stmt) (r : Result Framed Fault) → (func_of g).body ≡ b → frame_of parts modes (func_of g) ≡ r
-    → ((more : Functions) → functions_from parts main modes (suc i) gs more ≡ Err reason → IsFirst parts modes reason gs) → onward parts main modes i (func_of g) b gs fs ≡ Err reason → IsFirst parts modes reason (g ∷ gs)
-first_by parts main modes i g gs fs reason None r there made rest h =
-    later parts modes reason g gs (nobody (func_of g).body (HasFrame parts modes (func_of g)) there) (rest fs h)
-first_by parts main modes i g gs fs reason (Some body) (Ok f) there made rest h =
-    later parts modes reason g gs (λ some. (f, made)) (rest (with_one parts main i (func_of g) f fs) (sym (gone_on parts main modes i (func_of g) body gs fs f made) ∙ h))
-first_by parts main modes i g gs fs reason (Some body) (Err e) there made rest h =
-    let same : e ≡ reason = same_reason {A = Functions} e reason (sym (stopped parts main modes i (func_of g) body gs fs e made) ∙ h) in
-    record {
-      place = 0;
-      function = g;
-      there = refl;
-      body = somebody (func_of g).body body there;
-      refused = subst (λ (x : Fault). frame_of parts modes (func_of g) ≡ Err x) same made;
-      before = λ j x lt at some. absurd (omega (arith, lt));
-    }
+-- ---- one function
 
-first_of : (parts : Parts) (main : ℕ) (modes : Modes) (i : ℕ) (gs : List TFunc) (fs : Functions) (reason : Fault) → functions_from parts main modes i gs fs ≡ Err reason → IsFirst parts modes reason gs
-first_of parts main modes i [] fs reason h = absurd cc
-first_of parts main modes i (g ∷ gs) fs reason h =
-    first_by parts main modes i g gs fs reason (func_of g).body (frame_of parts modes (func_of g)) refl refl (λ more e. first_of parts main modes (suc i) gs more reason e) h
+abbrev IsRefused : Parts → Bool → Modes → FuncTy → Fault → Type 0
+IsRefused parts is_main modes g reason = (frame_of parts modes g ≡ Err reason) ⊎ HasManyLabels parts is_main modes g reason
 
--- ---- and the only one
+module _ (parts : Parts) (is_main : Bool) (modes : Modes) (g : FuncTy) where
+  by_frame : function_of parts is_main modes g ≡ (frame_of parts modes g >>= (λ f. finished (drafted_of parts is_main g f)))
+  unfolding function_of
+  by_frame = refl
 
-abbrev Before : Parts → Modes → List TFunc → ℕ → Type 0
-Before parts modes gs n = (j : ℕ) (x : TFunc) → j < n → slice_get gs j ≡ Some x → IsSome (func_of x).body → HasFrame parts modes (func_of x)
+  framed_so : (r : Result Framed Fault) → frame_of parts modes g ≡ r → function_of parts is_main modes g ≡ (r >>= (λ f. finished (drafted_of parts is_main g f)))
+  framed_so r e = by_frame ∙ ap (λ (x : Result Framed Fault). x >>= (λ f. finished (drafted_of parts is_main g f))) e
 
-refused_here : (parts : Parts) (main : ℕ) (modes : Modes) (i : ℕ) (x : TFunc) (gs : List TFunc) (fs : Functions) (reason : Fault) (b : Option Stmt) → (func_of x).body ≡ b → IsSome (func_of x).body → frame_of parts modes (func_of x) ≡ Err reason
-    → onward parts main modes i (func_of x) b gs fs ≡ Err reason
-refused_here parts main modes i x gs fs reason None there some h = nobody (func_of x).body (onward parts main modes i (func_of x) None gs fs ≡ Err reason) there some
-refused_here parts main modes i x gs fs reason (Some body) there some h = stopped parts main modes i (func_of x) body gs fs reason h
+  finished_so : (b : Bool) (d : Drafted) → nat_lt d.labels 4294967296 ≡ b → finished d ≡ (if b then Ok (closed d) else Err (large sizes.Frame 0))
+  finished_so b d e = ap (λ (x : Bool). if x then Ok (closed d) else Err (large sizes.Frame 0)) e
 
-refused_later : (parts : Parts) (main : ℕ) (modes : Modes) (i : ℕ) (x : TFunc) (gs : List TFunc) (fs : Functions) (reason : Fault) (b : Option Stmt) → (func_of x).body ≡ b → ((more : Functions) → functions_from parts main modes (suc i) gs more ≡ Err reason)
-    → (IsSome (func_of x).body → HasFrame parts modes (func_of x)) → onward parts main modes i (func_of x) b gs fs ≡ Err reason
-refused_later parts main modes i x gs fs reason None there rest head = rest fs
-refused_later parts main modes i x gs fs reason (Some body) there rest head =
-    let framed : HasFrame parts modes (func_of x) = head (somebody (func_of x).body body there) in
-    gone_on parts main modes i (func_of x) body gs fs framed.0 framed.1 ∙ rest (with_one parts main i (func_of x) framed.0 fs)
+  refused_for : (reason : Fault) → function_of parts is_main modes g ≡ Err reason → IsRefused parts is_main modes g reason
+  refused_for reason h = go (frame_of parts modes g) refl
+    where
+      many : (f : Framed) (b : Bool) → frame_of parts modes g ≡ Ok f → nat_lt (drafted_of parts is_main g f).labels 4294967296 ≡ b → IsRefused parts is_main modes g reason
+      many f true framed e = absurd (let no : ◌≡◌ {A = Result Segment Fault} (Err reason) (Ok (segment_of parts is_main g f)) = sym h ∙ (framed_so (Ok f) framed ∙ finished_so true (drafted_of parts is_main g f) e) in cc)
+      many f false framed e =
+          let same : ◌≡◌ {A = Result Segment Fault} (Err reason) (Err (large sizes.Frame 0)) = sym h ∙ (framed_so (Ok f) framed ∙ finished_so false (drafted_of parts is_main g f) e) in
+          inr (record { frame = f; framed = framed; many = ltb-false (drafted_of parts is_main g f).labels 4294967296 e; told = same_reason {A = Segment} reason (large sizes.Frame 0) same })
 
-refused_at : (parts : Parts) (main : ℕ) (modes : Modes) (i : ℕ) (gs : List TFunc) (fs : Functions) (reason : Fault) (n : ℕ) (g : TFunc) → slice_get gs n ≡ Some g → IsSome (func_of g).body → frame_of parts modes (func_of g) ≡ Err reason → Before parts modes gs n
-    → functions_from parts main modes i gs fs ≡ Err reason
-refused_at parts main modes i [] fs reason n g at some h before = absurd cc
-refused_at parts main modes i (x ∷ gs) fs reason zero g at some h before =
-    let same : x ≡ g = cc in
-    let mine : IsSome (func_of x).body = subst (λ (y : TFunc). IsSome (func_of y).body) (sym same) some in
-    let frame : frame_of parts modes (func_of x) ≡ Err reason = ap (λ (y : TFunc). frame_of parts modes (func_of y)) same ∙ h in
-    refused_here parts main modes i x gs fs reason (func_of x).body refl mine frame
-refused_at parts main modes i (x ∷ gs) fs reason (suc n) g at some h before =
-    refused_later parts main modes i x gs fs reason (func_of x).body refl (λ more. refused_at parts main modes (suc i) gs more reason n g at some h (λ j y lt. before (suc j) y (omega (arith, lt)))) (before 0 x (omega arith) refl)
+      go : (r : Result Framed Fault) → frame_of parts modes g ≡ r → IsRefused parts is_main modes g reason
+      go (Err e) framed = inl (framed ∙ ap (λ (x : Fault). Err x) (same_reason {A = Segment} e reason (sym (framed_so (Err e) framed) ∙ h)))
+      go (Ok f) framed = many f (nat_lt (drafted_of parts is_main g f).labels 4294967296) framed refl
+
+  refused_so : (reason : Fault) → IsRefused parts is_main modes g reason → function_of parts is_main modes g ≡ Err reason
+  refused_so reason (inl e) = framed_so (Err reason) e
+  refused_so reason (inr m) = framed_so (Ok m.frame) m.framed ∙ (finished_so false (drafted_of parts is_main g m.frame) (le-ltb (drafted_of parts is_main g m.frame).labels 4294967296 m.many) ∙ ap (λ (x : Fault). Err x) (sym m.told))
+
+  lines_for : (s : Segment) → function_of parts is_main modes g ≡ Ok s → HasLines parts is_main modes g
+  lines_for s h = let made : IsMade parts is_main modes g s = function_is_made parts is_main modes g s h in (made.frame, made.framed, made.few)
+
+  lines_so : (l : HasLines parts is_main modes g) → function_of parts is_main modes g ≡ Ok (segment_of parts is_main g l.0)
+  lines_so l = framed_so (Ok l.0) l.1 ∙ finished_so true (drafted_of parts is_main g l.0) (lt-ltb (drafted_of parts is_main g l.0).labels 4294967296 l.2)
+
+-- ---- the functions of a list
+
+abbrev Functions : Type 0
+Functions = List (Sym × Segment)
+
+module _ (parts : Parts) (main : ℕ) (modes : Modes) where
+  abbrev made_at : ℕ → FuncTy → Result Segment Fault
+  made_at i g = function_of parts (i == main) modes g
+
+  -- where the first one has this body
+  abbrev onward : ℕ → FuncTy → Option Stmt → List TFunc → Functions → Result Functions Fault
+  onward i g b gs fs = one_more parts (i == main) modes (function_symbol (numbers_of parts) i) g b fs >>= functions_from parts main modes (suc i) gs
+
+  abbrev with_one : ℕ → Segment → Functions → Functions
+  with_one i s fs = fs ++ (function_symbol (numbers_of parts) i, s) ∷ []
+
+  goes : (i : ℕ) (g : FuncTy) (body : Stmt) (gs : List TFunc) (fs : Functions) (r : Result Segment Fault) → made_at i g ≡ r → onward i g (Some body) gs fs ≡ ((r >>= (λ s. Ok (with_one i s fs))) >>= functions_from parts main modes (suc i) gs)
+  goes i g body gs fs r h = ap (λ (x : Result Segment Fault). (x >>= (λ s. Ok (with_one i s fs))) >>= functions_from parts main modes (suc i) gs) h
+
+  abbrev LinesAt : ℕ → TFunc → Type 0
+  LinesAt n g = IsSome (func_of g).body → HasLines parts (n == main) modes (func_of g)
+
+  abbrev Before : ℕ → List TFunc → ℕ → Type 0
+  Before i gs n = (j : ℕ) (x : TFunc) → j < n → slice_get gs j ≡ Some x → LinesAt (i + j) x
+
+  -- what is so before a place behind the head of a list is so of the head and before the place in the rest
+  before_cons : (i : ℕ) (g : TFunc) (gs : List TFunc) (n : ℕ) → LinesAt i g → Before (suc i) gs n → Before i (g ∷ gs) (suc n)
+  before_cons i g gs n head rest zero x lt at =
+      let same : g ≡ x = cc in
+      let here : i ≡ i + 0 = omega arith in
+      subst (λ (m : ℕ). LinesAt m x) here (subst (LinesAt i) same head)
+  before_cons i g gs n head rest (suc j) x lt at =
+      let here : suc i + j ≡ i + suc j = omega arith in
+      subst (λ (m : ℕ). LinesAt m x) here (rest j x (omega (arith, lt)) at)
+
+  -- ---- found
+
+  later : (reason : Fault) (i : ℕ) (g : TFunc) (gs : List TFunc) → LinesAt i g → IsFirst parts main modes reason (suc i) gs → IsFirst parts main modes reason i (g ∷ gs)
+  later reason i g gs head k =
+      let here : suc i + k.place ≡ i + suc k.place = omega arith in
+      record {
+        place = suc k.place;
+        function = k.function;
+        there = k.there;
+        body = k.body;
+        refused = subst (λ (m : ℕ). IsRefused parts (m == main) modes (func_of k.function) reason) here k.refused;
+        before = before_cons i g gs k.place head k.before;
+      }
+
+  nobody : (b : Option Stmt) (P : Type 0) → b ≡ None → IsSome b → P
+  nobody None P e h = absurd cc
+  nobody (Some s) P e h = absurd cc
+
+  somebody : (b : Option Stmt) (s : Stmt) → b ≡ Some s → IsSome b
+  somebody None s e = absurd cc
+  somebody (Some t) s e = refl
+
+  first_by : (i : ℕ) (g : TFunc) (gs : List TFunc) (fs : Functions) (reason : Fault) (b : Option Stmt) (r : Result Segment Fault) → (func_of g).body ≡ b → made_at i (func_of g) ≡ r
+      → ((more : Functions) → functions_from parts main modes (suc i) gs more ≡ Err reason → IsFirst parts main modes reason (suc i) gs) → onward i (func_of g) b gs fs ≡ Err reason → IsFirst parts main modes reason i (g ∷ gs)
+  first_by i g gs fs reason None r there made rest h = later reason i g gs (nobody (func_of g).body (HasLines parts (i == main) modes (func_of g)) there) (rest fs h)
+  first_by i g gs fs reason (Some body) (Ok s) there made rest h =
+      later reason i g gs (λ some. lines_for parts (i == main) modes (func_of g) s made) (rest (with_one i s fs) (sym (goes i (func_of g) body gs fs (Ok s) made) ∙ h))
+  first_by i g gs fs reason (Some body) (Err e) there made rest h =
+      let same : e ≡ reason = same_reason {A = Functions} e reason (sym (goes i (func_of g) body gs fs (Err e) made) ∙ h) in
+      let here : i ≡ i + 0 = omega arith in
+      record {
+        place = 0;
+        function = g;
+        there = refl;
+        body = somebody (func_of g).body body there;
+        refused = subst (λ (m : ℕ). IsRefused parts (m == main) modes (func_of g) reason) here (refused_for parts (i == main) modes (func_of g) reason (made ∙ ap (λ (x : Fault). Err x) same));
+        before = λ j x lt at some. absurd (omega (arith, lt));
+      }
+
+  first_of : (i : ℕ) (gs : List TFunc) (fs : Functions) (reason : Fault) → functions_from parts main modes i gs fs ≡ Err reason → IsFirst parts main modes reason i gs
+  first_of i [] fs reason h = absurd cc
+  first_of i (g ∷ gs) fs reason h = first_by i g gs fs reason (func_of g).body (made_at i (func_of g)) refl refl (λ more e. first_of (suc i) gs more reason e) h
+
+  -- ---- and the only one
+
+  refused_here : (i : ℕ) (x : TFunc) (gs : List TFunc) (fs : Functions) (reason : Fault) (b : Option Stmt) → (func_of x).body ≡ b → IsSome (func_of x).body → made_at i (func_of x) ≡ Err reason → onward i (func_of x) b gs fs ≡ Err reason
+  refused_here i x gs fs reason None there some h = nobody (func_of x).body (onward i (func_of x) None gs fs ≡ Err reason) there some
+  refused_here i x gs fs reason (Some body) there some h = goes i (func_of x) body gs fs (Err reason) h
+
+  refused_later : (i : ℕ) (x : TFunc) (gs : List TFunc) (fs : Functions) (reason : Fault) (b : Option Stmt) → (func_of x).body ≡ b → ((more : Functions) → functions_from parts main modes (suc i) gs more ≡ Err reason) → LinesAt i x → onward i (func_of x) b gs fs ≡ Err reason
+  refused_later i x gs fs reason None there rest head = rest fs
+  refused_later i x gs fs reason (Some body) there rest head =
+      let lines : HasLines parts (i == main) modes (func_of x) = head (somebody (func_of x).body body there) in
+      let s : Segment = segment_of parts (i == main) (func_of x) lines.0 in
+      goes i (func_of x) body gs fs (Ok s) (lines_so parts (i == main) modes (func_of x) lines) ∙ rest (with_one i s fs)
+
+  refused_at : (i : ℕ) (gs : List TFunc) (fs : Functions) (reason : Fault) (n : ℕ) (g : TFunc) → slice_get gs n ≡ Some g → IsSome (func_of g).body → IsRefused parts (i + n == main) modes (func_of g) reason → Before i gs n → functions_from parts main modes i gs fs ≡ Err reason
+  refused_at i [] fs reason n g at some h before = absurd cc
+  refused_at i (x ∷ gs) fs reason zero g at some h before =
+      let same : x ≡ g = cc in
+      let here : i + 0 ≡ i = omega arith in
+      let own : made_at i (func_of x) ≡ Err reason = ap (λ (y : TFunc). made_at i (func_of y)) same ∙ refused_so parts (i == main) modes (func_of g) reason (subst (λ (m : ℕ). IsRefused parts (m == main) modes (func_of g) reason) here h) in
+      refused_here i x gs fs reason (func_of x).body refl (subst (λ (y : TFunc). IsSome (func_of y).body) (sym same) some) own
+  refused_at i (x ∷ gs) fs reason (suc n) g at some h before =
+      let here : i + suc n ≡ suc i + n = omega arith in
+      let later_so : (more : Functions) → functions_from parts main modes (suc i) gs more ≡ Err reason = λ more.
+      refused_at (suc i) gs more reason n g at some (subst (λ (m : ℕ). IsRefused parts (m == main) modes (func_of g) reason) here h) (behind before) in
+      refused_later i x gs fs reason (func_of x).body refl later_so (first before)
+    where
+      first : Before i (x ∷ gs) (suc n) → LinesAt i x
+      first b = let none : i + 0 ≡ i = omega arith in subst (λ (m : ℕ). LinesAt m x) none (b 0 x (omega arith) refl)
+
+      behind : Before i (x ∷ gs) (suc n) → Before (suc i) gs n
+      behind b j y lt e = let one : i + suc j ≡ suc i + j = omega arith in subst (λ (m : ℕ). LinesAt m y) one (b (suc j) y (omega (arith, lt)) e)
 
 -- ---- programs
 

@@ -1,13 +1,17 @@
 -- What is law for the bytes of functions and programs.
-use Rattle.std.specs.Prelude.{◌≡◌, ℕ, ◌+◌, ◌≤◌, Ok, Err, List, length, map}
+use Rattle.std.specs.Prelude.{◌≡◌, ℕ, ◌+◌, ◌<◌, ◌≤◌, ◌^◌, ◌==◌, Some, Ok, Err, List, length, map, slice_get}
 use Rattle.c65_ctype.specs.Views.{types_of}
 use Rattle.c65_csem.specs.declared.items.Parts.{Parts}
-use Rattle.c65_csem.specs.Views.{unit_of, object_of}
+use Rattle.c65_csem.specs.declared.items.TFunc.{TFunc}
+use Rattle.c65_csem.specs.Trees.{Stmt}
+use Rattle.c65_csem.specs.Views.{unit_of, object_of, func_of}
 use Rattle.c65_csem.specs.Units.{IsUnit}
 use Rattle.c65_mach.specs.declared.image.Image.{Image}
 use Rattle.c65_code.specs.declared.code.Code.{Code}
 use Rattle.c65_code.specs.Weights.{extent_of}
 use Rattle.c65_genframe.specs.declared.modes.Modes.{Modes}
+use Rattle.c65_genframe.specs.Frames.{Framed, frame_of}
+use Rattle.c65_genstmt.specs.Functions.{drafted_of}
 use Rattle.c65_genstmt.specs.Programs.{program_of}
 use Rattle.c65_link.specs.Linked.{large, linked}
 use Rattle.c65_csem_names.specs.Programs.{IsScopedProgram}
@@ -31,6 +35,12 @@ abbrev pub LargeImagesAreWithinTheirBulk : Type 0
 LargeImagesAreWithinTheirBulk = (parts : Parts) (main : ℕ) (names : List (List ℕ)) (modes : Modes) (code : Code) (size : ℕ)
     → AreFilled (types_of parts.types) (map object_of parts.objects.items)
     → program_of parts main names modes ≡ Ok code → linked code ≡ Err (large size) → size ≤ bulk_of parts
+
+-- it has a code only where the labels of each function have numbers of 32 bits
+abbrev pub LabelsAreFew : Type 0
+LabelsAreFew = (parts : Parts) (main : ℕ) (names : List (List ℕ)) (modes : Modes) (code : Code) (i : ℕ) (g : TFunc) (body : Stmt) (f : Framed)
+    → program_of parts main names modes ≡ Ok code → slice_get parts.funcs.items i ≡ Some g → (func_of g).body ≡ Some body → frame_of parts modes (func_of g) ≡ Ok f
+    → (drafted_of parts (i == main) (func_of g) f).labels < 2 ^ 32
 
 -- the initial values of a well typed, scoped program fill their objects: the premise of the laws above
 abbrev pub ScopedProgramsFillTheirObjects : Type 0

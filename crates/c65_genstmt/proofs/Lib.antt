@@ -3,3 +3,4 @@ pub mod Counts
 pub mod Drafts
 pub mod Lasts
 pub mod Loops
+pub mod Made

@@ -1,5 +1,5 @@
 -- The lines of a function (C90 6.7.1; docs/MACHINE.md, "Calls").
-use Rattle.std.specs.Prelude.{ℕ, ◌==◌, ◌&&◌, not, Bool, false, if◌then◌else◌, Option, None, Some, option_map, slice_get, Result, Ok, Err, List, [], ◌∷◌}
+use Rattle.std.specs.Prelude.{ℕ, ◌==◌, ◌&&◌, nat_lt, not, Bool, false, if◌then◌else◌, Option, None, Some, option_map, slice_get, Result, Ok, Err, List, [], ◌∷◌}
 use Rattle.c65_base.specs.declared.refusal.Size.TheVariants as sizes
 use Rattle.c65_base.specs.Answers.{Fault, large, ◌>>=◌}
 use Rattle.c65_ctype.specs.Trees.{type_in}
@@ -56,11 +56,18 @@ no_lines out = record { lines = []; labels = 0; out = out }
 abbrev pub closed : Drafted → Segment
 closed d = record { lines = d.lines; out = d.out }
 
+-- labels are of 32 bits: what gives more of them is refused, as a frame of no size
+abbrev pub finished : Drafted → Result Segment Fault
+finished d = if nat_lt d.labels 4294967296 then Ok (closed d) else Err (large sizes.Frame 0)
+
+abbrev pub drafted_of : Parts → Bool → FuncTy → Framed → Drafted
+drafted_of parts is_main g f = with_function f is_main g.body (no_lines (gives_of parts g))
+
 abbrev pub segment_of : Parts → Bool → FuncTy → Framed → Segment
-segment_of parts is_main g f = closed (with_function f is_main g.body (no_lines (gives_of parts g)))
+segment_of parts is_main g f = closed (drafted_of parts is_main g f)
 
 unfoldable pub function_of : Parts → Bool → Modes → FuncTy → Result Segment Fault
-function_of parts is_main modes g = frame_of parts modes g >>= (λ f. Ok (segment_of parts is_main g f))
+function_of parts is_main modes g = frame_of parts modes g >>= (λ f. finished (drafted_of parts is_main g f))
 
 abbrev pub function_in : Parts → Bool → Modes → Option FuncTy → Result Segment Fault
 function_in parts is_main modes None = Err (large sizes.Frame 0)

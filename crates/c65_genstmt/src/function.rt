@@ -1,10 +1,10 @@
 // Functions (C90 6.7.1; MACHINE.md, "Calls").
-ghost use Rattle.std.specs.Prelude.{◌≡◌, ◌≤◌, ◌^◌, IfOk, OnOk};
+ghost use Rattle.std.specs.Prelude.{◌≡◌, ◌≤◌, ◌^◌, IfOk, OnOk, Ok};
 ghost use Rattle.c65_base.specs.Answers.{Gives};
 ghost use Rattle.c65_csem.specs.Views.{func_of};
 ghost use Rattle.c65_genframe.specs.Modes.{modes_of};
 ghost use Rattle.c65_genwide.specs.Lines.{with_lines};
-ghost use Rattle.c65_genstmt.specs.Functions.{body_returns, body_room, with_body, main_code, with_function, no_lines, closed, gives_of, function_of, function_at};
+ghost use Rattle.c65_genstmt.specs.Functions.{body_returns, body_room, with_body, main_code, with_function, finished, drafted_of, gives_of, function_of, function_at};
 
 use crate::cases::room_of;
 use crate::jumps::Ways;
@@ -110,7 +110,7 @@ fn drafted(
     frame: &Frame<'_>,
     is_main: bool,
 ) -> Result<Draft, AllocError>
-    ensures { IfOk result (λ d. d ≡ with_function frame.now is_main (func_of function.now).body (no_lines (gives_of parts.now (func_of function.now)))) }
+    ensures { IfOk result (λ d. d ≡ drafted_of parts.now is_main (func_of function.now) frame.now) }
 {
     let mut draft = Draft::new(alloc, gives_of(parts, function));
     put_function(alloc, function, frame, is_main, &mut draft)?;
@@ -118,10 +118,11 @@ fn drafted(
 }
 
 /// A segment of the lines. Where they are none, that is refused as want of memory.
-#[tactic(auto, using(crate::proofs::Drafts::segment_is))]
+#[tactic(auto, using(crate::proofs::Drafts::finished_is))]
 fn close(draft: Draft) -> Result<Seg, AllocError>
-    ensures { IfOk result (λ s. s ≡ closed draft) }
+    ensures { IfOk result (λ s. finished draft ≡ Ok s) }
 {
+    let _few = draft.labels();
     if is_segment(draft.lines()) {
         Ok(draft.close())
     } else {

@@ -11,7 +11,7 @@ use Rattle.c65_code.specs.declared.line.Sym.{Sym}
 use Rattle.c65_code.specs.Segments.{Segment}
 use Rattle.c65_genframe.specs.declared.modes.Modes.{Modes}
 use Rattle.c65_genframe.specs.Frames.{Framed, frame_of}
-use Rattle.c65_genstmt.specs.Functions.{function_of}
+use Rattle.c65_genstmt.specs.Functions.{segment_of, function_of}
 use Rattle.c65_genstmt.specs.Programs.{one_more, function_added, functions_from, functions_of}
 use Rattle.c65_headline.specs.Planned.{OnlyFramesAreRefused}
 
@@ -33,12 +33,16 @@ of_frame : (b : Bool) (value : ℕ) (x : Framed) (fault : Fault) → (if b then 
 of_frame true value x fault h = (value, same_fault {A = Framed} (large sizes.Frame value) fault h)
 of_frame false value x fault h = no_fault x fault h
 
+of_labels : (b : Bool) (x : Segment) (fault : Fault) → (if b then Ok x else Err (large sizes.Frame 0)) ≡ Err fault → IsFrame fault
+of_labels true x fault h = no_fault x fault h
+of_labels false x fault h = (0, same_fault {A = Segment} (large sizes.Frame 0) fault h)
+
 frame_fault : (parts : Parts) (modes : Modes) (g : FuncTy) (fault : Fault) → frame_of parts modes g ≡ Err fault → IsFrame fault
 frame_fault parts modes g fault h = of_frame _ _ _ fault h
 
 function_fault : (parts : Parts) (is_main : Bool) (modes : Modes) (g : FuncTy) (fault : Fault) → function_of parts is_main modes g ≡ Err fault → IsFrame fault
 unfolding function_of
-function_fault parts is_main modes g fault h = of_chain (frame_of parts modes g) _ fault (λ e k. frame_fault parts modes g e k) (λ x e k. no_fault _ e k) h
+function_fault parts is_main modes g fault h = of_chain (frame_of parts modes g) _ fault (λ e k. frame_fault parts modes g e k) (λ f e k. of_labels _ (segment_of parts is_main g f) e k) h
 
 more_fault : (parts : Parts) (is_main : Bool) (modes : Modes) (sym : Sym) (g : FuncTy) (body : Option Stmt) (fs : List (Sym × Segment)) (fault : Fault) → one_more parts is_main modes sym g body fs ≡ Err fault → IsFrame fault
 more_fault parts is_main modes sym g None fs fault h = no_fault fs fault h
