@@ -184,7 +184,7 @@ fn spliced(
     requires { at + count ≤ length old.now }
     ensures { IfOk result (λ lines. lines.items ≡ replaced old.now at count new.now) }
 {
-    let mut lines = Vec::new(alloc);
+    let mut lines = Vec::with_capacity(alloc, old.len() + new.len())?;
     lines.extend_from_slice(&old[..at])?;
     lines.extend_from_slice(new)?;
     lines.extend_from_slice(&old[at + count..])?;

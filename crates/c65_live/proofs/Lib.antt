@@ -9,6 +9,7 @@ mod Edges
 mod Replacing
 mod Lists
 mod Places
+mod Cuts
 mod Follows
 mod Regions
 mod Swept

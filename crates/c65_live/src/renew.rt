@@ -1,5 +1,5 @@
 // The table of lines in place of others, remade only near them where all ways through their place go straight.
-ghost use Rattle.std.specs.Prelude.{◌≡◌, ◌+◌, ◌≤◌, true, length, get_or, IfOk, IfSome};
+ghost use Rattle.std.specs.Prelude.{◌≡◌, ◌+◌, ◌≤◌, true, length, IfOk, IfSome};
 ghost use Rattle.c65_code.specs.Parts.{no_parts};
 ghost use Rattle.c65_live.specs.Renewals.{is_plain, are_plain, before_line, before_all, before_rest, afters, IsEdge, AreSettled};
 
@@ -48,13 +48,12 @@ fn before_all(out: RegSet, lines: &[Line], after: RegSet) -> RegSet
 }
 
 /// What is live before the first of some lines, by what is live after it.
-pub(crate) fn before_rest(out: RegSet, rest: &[Line], live: &[RegSet]) -> RegSet
-    requires { length live.now ≡ length rest.now }
-    ensures { result ≡ before_rest out rest.now (get_or live.now 0 no_parts) }
+pub(crate) fn before_rest(out: RegSet, rest: &[Line], after: RegSet) -> RegSet
+    ensures { result ≡ before_rest out rest.now after }
 {
     match rest {
         [] => RegSet::empty(),
-        [line, ..] => before(out, line, live[0]),
+        [line, ..] => before(out, line, after),
     }
 }
 

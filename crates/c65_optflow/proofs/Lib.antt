@@ -4,3 +4,4 @@ pub mod Rules
 pub mod Unused
 pub mod Good
 pub mod Dropped
+pub mod Hopless

@@ -5,6 +5,7 @@ mod branches;
 mod drop;
 mod find;
 mod flow;
+mod hops;
 mod samples;
 
 pub use drop::drop_unused_labels;

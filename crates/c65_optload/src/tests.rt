@@ -115,12 +115,18 @@ fn what_is_known_before_a_loop_is_not_known_in_it(rt: HostRuntime) -> Result<(),
 fn loads_of_what_registers_have_become_transfers_or_go(rt: HostRuntime) -> Result<(), Fail> {
     let old = [
         of_byte(Op::Lda, 5),
+        of_byte(Op::Cmp, 7),
         of_byte(Op::Ldx, 5),
         of_byte(Op::Ldx, 6),
         of_byte(Op::Lda, 5),
         BACK,
     ];
-    let new = [of_byte(Op::Lda, 5), of_byte(Op::Ldx, 6), BACK];
+    let new = [
+        of_byte(Op::Lda, 5),
+        of_byte(Op::Cmp, 7),
+        of_byte(Op::Ldx, 6),
+        BACK,
+    ];
     assert!(rt; made(rt.alloc(), &old, &new)?.is_some());
     Ok(())
 }

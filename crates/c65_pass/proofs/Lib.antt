@@ -6,4 +6,6 @@ pub mod Replaced
 pub mod Turns
 pub mod Places
 pub mod Walks
+pub mod Groups
+pub mod Cycles
 pub mod Plain

@@ -61,26 +61,8 @@ rules_done_more among out now old mid new n m good s same d chain =
       no_bulkier = omega (arith, k.no_bulkier, d.no_bulkier);
     }
 
--- one turn more of a round
-pub turned : (first end turn : ℕ) (among : ℕ → ℕ → Type 0) (out now : RegSet) (old mid new : List Line) (n m : ℕ) → first ≤ turn → turn < end → now ≡ out
-    → RulesRewrite (InTurn first end among) out old n mid → RulesRewrite (among turn) now mid m new → RulesRewrite (InTurn first end among) out old (m + n) new
-turned first end turn among out now old mid new n m from before same chain next =
-    let all = InTurn first end among in
-    let wide = rules_wider (among turn) all now mid new m (λ rule r. record { turn = turn; first = from; before = before; among = r }) next in
-    rules_joined all out old mid new n m chain (subst (λ o. RulesRewrite all o mid m new) same wide)
-
 pub both_none : (most made now : ℕ) → 0 < most → min (made + now) most ≡ 0 → (made ≡ 0) × (now ≡ 0)
 both_none most made now h e = (omega (arith, h, e), omega (arith, h, e))
-
--- rules of earlier turns that matched nowhere still do so behind a turn that made nothing, as do its own
-pub free_so_far : (first turn made now : ℕ) (among : ℕ → ℕ → Type 0) (code new : Annotated) → (made ≡ 0 → (t : ℕ) → first ≤ t → t < turn → AreFree (among t) code)
-    → AreFree (among turn) new → (now ≡ 0 → new ≡ code) → made ≡ 0 → now ≡ 0 → (t : ℕ) → first ≤ t → t < turn + 1 → AreFree (among t) new
-free_so_far first turn made now among code new before own same unmade idle t from less =
-    let last : t ≤ turn = omega (arith, less) in go (eq-or-lt_of_le last)
-  where
-    go : (t ≡ turn) ⊎ (t < turn) → AreFree (among t) new
-    go (inl e) = subst (λ n. AreFree (among n) new) (sym e) own
-    go (inr earlier) = subst (AreFree (among t)) (sym (same idle)) (before unmade t from earlier)
 
 -- the same rules in other words
 pub passed_alike : (among other : ℕ → Type 0) (old new : Annotated) (result : Result ℕ Refusal) → ((rule : ℕ) → among rule → other rule) → ((rule : ℕ) → other rule → among rule)

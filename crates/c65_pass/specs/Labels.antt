@@ -50,6 +50,12 @@ first_jump (line ∷ lines) = jump_target line
 abbrev pub hop : List Line → ℕ → Option ℕ
 hop lines l = first_jump (behind l lines)
 
+-- whether a JMP stands at any label
+abbrev pub has_hop : List Line → Bool
+has_hop [] = false
+has_hop (Label k ∷ lines) = is_some (first_jump lines) || has_hop lines
+has_hop (line ∷ lines) = has_hop lines
+
 -- the label at which a chain of at most so many JMPs ends, which begins at a label whose JMP goes so
 abbrev pub chain_from : ℕ → List Line → ℕ → Option ℕ → Option ℕ
 chain_from most lines l None = Some l

@@ -1,5 +1,5 @@
 -- Rewriting by several rules in turn.
-use Rattle.std.specs.Prelude.{◌≡◌, ◌<◌, ◌≤◌, ℕ, ◌+◌, All, IfOk, IfErr, List, [], Result}
+use Rattle.std.specs.Prelude.{◌≡◌, ◌<◌, ◌≤◌, ℕ, ◌+◌, All, IfOk, IfErr, List, [], Option, Some, None, Result}
 use Rattle.c65_base.specs.declared.refusal.Refusal.{Refusal}
 use Rattle.c65_base.specs.declared.refusal.Refusal.TheVariants.{OutOfMemory}
 use Rattle.c65_code.specs.declared.line.Line.{Line}
@@ -8,7 +8,10 @@ use Rattle.c65_code.specs.Segments.{IsSegment}
 use Rattle.c65_code.specs.Weights.{lines_size}
 use Rattle.c65_code.specs.Writable.{IsLineWritable}
 use Rattle.c65_know.specs.Known.{Annotated}
+use Rattle.c65_live.specs.Tables.{Table}
 use Rattle.c65_pass.specs.Passes.{Rewrites, IsFree, IsGood, counted}
+use Rattle.c65_pass.specs.Rewriting.{Rewriting}
+use Rattle.c65_pass.specs.Rules.{match_at}
 
 -- the one rule of a number, and the rules from one number to another
 abbrev pub Only : ℕ → ℕ → Type 0
@@ -32,6 +35,15 @@ AreFree among noted = (rule : ℕ) → among rule → IsFree rule [] noted
 -- each of the rules keeps what rewritings keep
 abbrev pub AreGood : (ℕ → Type 0) → Type 0
 AreGood among = (rule : ℕ) → among rule → IsGood rule []
+
+-- what one of the rules makes at a place; none where none of them matches there
+abbrev pub IsFoundAmong : (ℕ → Type 0) → Annotated → Table → ℕ → Option Rewriting → Type 0
+IsFoundAmong among noted table at None = (rule : ℕ) → among rule → match_at rule [] noted table at ≡ None
+IsFoundAmong among noted table at (Some w) = (rule : ℕ) × among rule × (match_at rule [] noted table at ≡ Some w)
+
+-- what a function answers at a place that looks for each of the rules: that, or want of memory
+abbrev pub FindsAmong : (ℕ → Type 0) → Annotated → Table → ℕ → Result (Option Rewriting) Refusal → Type 0
+FindsAmong among noted table at result = IfOk result (IsFoundAmong among noted table at) × IfErr result (λ refusal. refusal ≡ OutOfMemory)
 
 -- the new lines come from the old ones by so many rewritings of the rules, each where it matches
 pub data RulesRewrite (among : ℕ → Type 0) (out : RegSet) (old : List Line) : ℕ → List Line → Type 0 where

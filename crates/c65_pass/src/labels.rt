@@ -1,7 +1,7 @@
 // Where jumps and branches go: labels that follow at once, and chains of jumps.
 ghost use Rattle.std.specs.Prelude.{◌≡◌};
 ghost use Rattle.c65_pass.specs.FlowRules.{threaded};
-ghost use Rattle.c65_pass.specs.Labels.{jump_target, branch_target, retargeted, is_label, begins_with, behind, first_jump, hop, chain_from, chain_end};
+ghost use Rattle.c65_pass.specs.Labels.{jump_target, branch_target, retargeted, is_label, begins_with, behind, first_jump, hop, has_hop, chain_from, chain_end};
 
 use c65_code::{Line, Operand};
 use c65_mach::{Mode, Op};
@@ -88,6 +88,18 @@ pub fn hop(lines: &[Line], label: u32) -> Option<u32>
     ensures { result ≡ hop lines.now label }
 {
     first_jump(behind(label, lines))
+}
+
+/// Whether a JMP stands at any label.
+pub fn has_hop(lines: &[Line]) -> bool
+    ensures { result ≡ has_hop lines.now }
+{
+    for (at, line) in lines.iter().enumerate() {
+        if is_label(line) && first_jump(&lines[at + 1..]).is_some() {
+            return true;
+        }
+    }
+    false
 }
 
 /// The label at which the chain of JMPs ends whose first goes to a label. None where the chain comes back to itself.

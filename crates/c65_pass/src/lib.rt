@@ -2,6 +2,7 @@
 #![tactic(auto)]
 
 mod answer;
+mod group;
 mod labels;
 mod lines;
 mod once;
@@ -12,8 +13,10 @@ mod run;
 mod window;
 
 pub use answer::{Found, alone_if, gone_if, instead, lines_from, lines_of};
+pub use group::{Group, run_group};
 pub use labels::{
-    begins_with, branch_target, chain_end, hop, is_label, jump_target, retargeted, threaded,
+    begins_with, branch_target, chain_end, has_hop, hop, is_label, jump_target, retargeted,
+    threaded,
 };
 pub use once::run_once;
 pub use register::{Register, Transfer, loaded_by, stored_by, transfer_by};

@@ -12,12 +12,12 @@ use smallvec::SmallVec;
 use std::alloc::Global;
 use std::marker::Model;
 
-/// Lines that are to stand for `count` lines from line `at` on.
+/// Lines, mostly one or none, that are to stand for `count` lines from line `at` on.
 #[derive(Drop)]
 pub struct Rewrite {
     pub at: usize,
     pub count: usize,
-    pub lines: SmallVec<Line, 8, Global>,
+    pub lines: SmallVec<Line, 1, Global>,
 }
 
 impl Model for Rewrite {

@@ -1,10 +1,8 @@
 // Rules in turn, until none of them matches anywhere.
-ghost use Rattle.std.specs.Prelude.{◌≡◌, ◌≤◌, ◌<◌, ℕ, [], IfOk, IfErr};
-ghost use Rattle.c65_base.specs.declared.refusal.Refusal.TheVariants.{OutOfMemory};
-ghost use Rattle.c65_code.specs.Segments.{IsSegment};
+ghost use Rattle.std.specs.Prelude.{◌≡◌, ◌≤◌, ◌<◌, ◌+◌, ℕ, [], IfOk};
 ghost use Rattle.c65_know.specs.Known.{Annotated, annotated};
-ghost use Rattle.c65_pass.specs.Passes.{Answers, IsTableOf, IsGood, counted, last_flow_rule};
-ghost use Rattle.c65_pass.specs.Rounds.{Only, InTurn, AreFree, AreGood, RulesRewrite, IsPassed};
+ghost use Rattle.c65_pass.specs.Passes.{Answers, IsTableOf, IsGood, last_flow_rule};
+ghost use Rattle.c65_pass.specs.Rounds.{Only, InTurn, AreGood, IsPassed};
 ghost use Rattle.c65_pass.specs.Rules.{match_at};
 
 use crate::lines::run_lines;
@@ -106,35 +104,27 @@ pub fn run_jump_rule<F: Fn(&Seg, &LiveTable, usize) -> Result<Option<Rewrite>, R
     run_lines(alloc, code, &pass)
 }
 
-// Each turn once.
-fn round<R: Rules>(
-    alloc: Global,
-    code: &mut Noted,
-    rules: &mut R,
-    first: u8,
-    end: u8,
-) -> Result<usize, Refusal>
-    requires first { first ≡ R.first }
-    requires end { end ≡ R.end }
-    requires some { first < end }
-    requires ready { R.ready rules.old code.old }
-    ensures ready { IfOk result (λ _. R.ready rules.new code.new) }
-    ensures none { IfOk result (λ made. made ≡ 0 → AreFree (InTurn R.first R.end R.among) code.new) }
-    ensures chain { (n : ℕ) × RulesRewrite (InTurn R.first R.end R.among) code.old.out code.old.lines n code.new.lines × IfOk result (λ made. made ≡ counted n) }
-    ensures same { IfOk result (λ made. made ≡ 0 → code.new ≡ code.old) }
-    ensures segment { IsSegment code.old.lines }
-    ensures out { code.new.out ≡ code.old.out }
-    ensures refused { IfErr result (λ refusal. refusal ≡ OutOfMemory) }
+// The turn behind one; behind the last comes the first.
+fn next_turn(turn: u8, first: u8, end: u8) -> u8
+    requires { turn < end }
+    ensures next { turn + 1 < end → result ≡ turn + 1 }
+    ensures again { end ≡ turn + 1 → result ≡ first }
 {
-    let mut made: usize = 0;
-    'turns: for turn in first..end {
-        let now = rules.run(alloc, code, turn)?;
-        made = made.saturating_add(now);
-    }
-    Ok(made)
+    let next = turn + 1;
+    if next == end { first } else { next }
 }
 
-/// Rewrites by the rules of the turns from `first` on and before `end`, in rounds until one makes nothing, and answers how often.
+// How many turns in a row are known to match nowhere, behind one that made so many rewritings: it is one of them.
+fn idle_after(idle: u8, now: usize) -> u8
+    requires { idle < 255 }
+    ensures more { now ≡ 0 → result ≡ idle + 1 }
+    ensures one { (now ≡ 0 → ⊥) → result ≡ 1 }
+{
+    if now == 0 { idle + 1 } else { 1 }
+}
+
+/// Rewrites by the rules of the turns from `first` on and before `end`, one behind the other and from the first
+/// again, until none of them matches anywhere, and answers how often.
 pub fn run_rules<R: Rules>(
     alloc: Global,
     code: &mut Noted,
@@ -150,11 +140,13 @@ pub fn run_rules<R: Rules>(
     ensures { IsPassed (InTurn R.first R.end R.among) code.old code.new result }
 {
     let mut made: usize = 0;
-    'rounds: loop {
-        let now = round(alloc, code, rules, first, end)?;
-        if now == 0 {
-            return Ok(made);
-        }
+    let mut idle: u8 = 0;
+    let mut turn = first;
+    'turns: while idle < end - first {
+        let now = rules.run(alloc, code, turn)?;
         made = made.saturating_add(now);
+        idle = idle_after(idle, now);
+        turn = next_turn(turn, first, end);
     }
+    Ok(made)
 }

@@ -31,7 +31,8 @@ pub(crate) fn find_at<F: Fn(&Noted, &LiveTable, usize) -> Result<Option<Rewrite>
     (pass.find)(code, live, at)
 }
 
-fn rewrite(code: &mut Noted, rewrite: Rewrite) -> Result<(), Refusal>
+/// The lines with others in place of some.
+pub(crate) fn rewrite(code: &mut Noted, rewrite: Rewrite) -> Result<(), Refusal>
     requires { Keeps code.old.lines rewrite }
     ensures ok { OnOk result (code.new ≡ annotated (rewritten code.old.lines rewrite) code.old.out) }
     ensures err { OnErr result (code.new ≡ code.old) }

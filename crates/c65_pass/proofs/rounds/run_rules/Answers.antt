@@ -1,67 +1,98 @@
-use Rattle.std.proofs.Common.{rules, ◌+◌, ◌-◌, ◌^◌, refl, arith, sym, ◌∙◌}
+use Rattle.std.proofs.Common.{rules, ◌≡◌, ◌+◌, ◌-◌, ◌^◌, refl, arith, sym, subst, ◌∙◌}
 use Rattle.c65_pass.specs.Rewriting.{bulk}
-use Rattle.c65_pass.proofs.Chains.{count_more, none_more, some_made, some_more, first_segment}
-use Rattle.c65_pass.proofs.Turns.{rules_done_none, rules_done_more, rules_kept}
+use Rattle.c65_pass.specs.Rounds.{InTurn, AreFree}
+use Rattle.c65_pass.proofs.Chains.{count_more, first_segment}
+use Rattle.c65_pass.proofs.Cycles.{IsNext, none_recent, free_still, all_free, turn_rewrites, next_within, idle_within, cycle_smaller}
+use Rattle.c65_pass.proofs.Turns.{rules_done_none, rules_done_more, rules_kept, both_none}
 use Rattle.c65_pass.proofs.rounds.run_rules.Goals as goal
 
-pub rounds-init : goal.rounds-init
-rounds-init g c = (0, rules_done_none _ _ _, omega arith, refl, λ e. refl, λ no. absurd (no refl), c.requires.ready)
+pub turns-init : goal.turns-init
+turns-init g c = (
+  0,
+  record {
+    done = rules_done_none _ _ _;
+    made = omega arith;
+    out = refl;
+    same = λ e. refl;
+    since = λ no. absurd (no refl);
+    segment = λ h. absurd (omega (arith, h));
+    ready = c.requires.ready;
+    from = omega arith;
+    before = c.requires.some;
+    few = omega arith;
+    free = λ t low high recent. none_recent c.args.first c.args.end c.args.first t (omega arith) high recent;
+  },
+)
 
 pub returns-in_err-now : goal.returns-in_err-now
 returns-in_err-now g c =
-    let i = c.rounds.invariant in
-    let s = c.round.ensures.chain in
-    let d = rules_done_more _ _ _ _ _ _ i.0 s.0 c.requires.good c.round.ensures.segment i.3 i.1 s.1 in
+    let i = c.turns.invariant in
+    let p = c.run.ensures.passed in
+    let s = p.chain in
+    let more = turn_rewrites _ _ c.turns.turn _ _ c.turns.code.lines c.run.new.code.lines s.0 (omega (arith, i.1.from, c.requires.first)) (omega (arith, i.1.before, c.requires.end)) s.1 in
+    let d = rules_done_more _ _ _ _ _ _ i.0 s.0 c.requires.good p.segments.0 i.1.out i.1.done more in
     record {
       none = search rules;
       chain = (s.0 + i.0, d.chain, search rules);
       same = search rules;
-      segments = (
-        first_segment c.rounds.made c.args.code.now c.rounds.code i.4 i.5 c.round.ensures.segment,
-        (rules_kept _ _ c.rounds.code.lines c.round.new.code.lines s.0 c.requires.good c.round.ensures.segment s.1).segment,
-      );
+      segments = (first_segment c.turns.made c.args.code.now c.turns.code i.1.same i.1.since p.segments.0, p.segments.1);
       extent = d.size;
       writable = d.writable;
-      out = c.round.ensures.out ∙ i.3;
+      out = p.out ∙ i.1.out;
       refused = search rules;
     }
 
-pub returns-then-now-eq0 : goal.returns-then-now-eq0
-returns-then-now-eq0 g c =
-    let i = c.rounds.invariant in
-    let s = c.in_ok-now.ensures.chain in
-    let d = rules_done_more _ _ _ _ _ _ i.0 s.0 c.requires.good c.round.ensures.segment i.3 i.1 s.1 in
+pub turns-preserved : goal.turns-preserved
+turns-preserved g c =
+    let i = c.turns.invariant in
+    let p = c.in_ok-now.ensures.passed in
+    let s = p.chain in
+    let more = turn_rewrites _ _ c.turns.turn _ _ c.turns.code.lines c.run.new.code.lines s.0 (omega (arith, i.1.from, c.requires.first)) (omega (arith, i.1.before, c.requires.end)) s.1 in
+    let d = rules_done_more _ _ _ _ _ _ i.0 s.0 c.requires.good p.segments.0 i.1.out i.1.done more in
+    let next : IsNext c.args.first c.args.end c.turns.turn c.next_turn-turn.result = record { on = c.next_turn-turn.ensures.next; again = c.next_turn-turn.ensures.again } in
+    let within = next_within c.args.first c.args.end c.turns.turn c.next_turn-turn.result i.1.from i.1.before next in
+    let both = λ (e : c.saturating_add-made.result ≡ 0). both_none (2 ^ 64 - 1) c.turns.made c.in_ok-now.now (omega arith) (sym c.saturating_add-made.ensures ∙ e) in
+    let segment = first_segment c.turns.made c.args.code.now c.turns.code i.1.same i.1.since p.segments.0 in (
+      s.0 + i.0,
+      record {
+        done = d;
+        made = c.saturating_add-made.ensures ∙ count_more (2 ^ 64 - 1) _ _ i.0 s.0 i.1.made s.2;
+        out = p.out ∙ i.1.out;
+        same = λ e. p.same (both e).1 ∙ i.1.same (both e).0;
+        since = λ no. segment;
+        segment = λ h. p.segments.1;
+        ready = c.in_ok-now.ensures.ready;
+        from = within.0;
+        before = within.1;
+        few = idle_within c.args.first c.args.end c.turns.idle c.in_ok-now.now c.idle_after-idle.result c.turns-test.true c.idle_after-idle.ensures.more c.idle_after-idle.ensures.one;
+        free = free_still c.args.first c.args.end c.turns.turn c.next_turn-turn.result c.turns.idle c.in_ok-now.now c.idle_after-idle.result _ c.turns.code c.run.new.code i.1.from i.1.before next i.1.free p.none p.same
+            c.idle_after-idle.ensures.more c.idle_after-idle.ensures.one;
+      },
+    )
+
+pub turns-smaller : goal.turns-smaller
+turns-smaller g c =
+    let i = c.turns.invariant in
+    let p = c.in_ok-now.ensures.passed in
+    let s = p.chain in
+    let more = turn_rewrites _ _ c.turns.turn _ _ c.turns.code.lines c.run.new.code.lines s.0 (omega (arith, i.1.from, c.requires.first)) (omega (arith, i.1.before, c.requires.end)) s.1 in
+    let k = rules_kept _ _ c.turns.code.lines c.run.new.code.lines s.0 c.requires.good p.segments.0 more in
+    cycle_smaller c.args.code.now.lines c.turns.code c.run.new.code c.args.first c.args.end c.turns.idle c.in_ok-now.now c.idle_after-idle.result s.0 (k.lower (bulk c.args.code.now.lines) i.1.done.no_bulkier) s.2 p.same c.turns-test.true
+    c.idle_after-idle.ensures.more
+
+pub returns : goal.returns
+returns g c =
+    let i = c.turns.invariant in
+    let now = i.1.segment (omega (arith, c.turns-test.false, c.requires.some)) in
+    let free = all_free c.args.first c.args.end c.turns.turn c.turns.idle g.R.Rules.among c.turns.code i.1.before (omega (arith, c.turns-test.false)) i.1.free in
+    let from_first = subst (λ first. AreFree (InTurn first c.args.end g.R.Rules.among) c.turns.code) c.requires.first free in
     record {
-      none = c.in_ok-now.ensures.none c.if-now-eq0.true;
-      chain = (s.0 + i.0, d.chain, none_more (2 ^ 64 - 1) _ _ i.0 s.0 i.2 s.2 c.if-now-eq0.true);
-      same = λ e. c.in_ok-now.ensures.same c.if-now-eq0.true ∙ i.4 e;
-      segments = (
-        first_segment c.rounds.made c.args.code.now c.rounds.code i.4 i.5 c.round.ensures.segment,
-        (rules_kept _ _ c.rounds.code.lines c.round.new.code.lines s.0 c.requires.good c.round.ensures.segment s.1).segment,
-      );
-      extent = d.size;
-      writable = d.writable;
-      out = c.round.ensures.out ∙ i.3;
+      none = subst (λ end. AreFree (InTurn g.R.Rules.first end g.R.Rules.among) c.turns.code) c.requires.end from_first;
+      chain = (i.0, i.1.done.chain, i.1.made);
+      same = i.1.same;
+      segments = (first_segment c.turns.made c.args.code.now c.turns.code i.1.same i.1.since now, now);
+      extent = i.1.done.size;
+      writable = i.1.done.writable;
+      out = i.1.out;
       refused = tt;
     }
-
-pub rounds-smaller : goal.rounds-smaller
-rounds-smaller g c =
-    let i = c.rounds.invariant in
-    let s = c.in_ok-now.ensures.chain in
-    let k = rules_kept _ _ c.rounds.code.lines c.round.new.code.lines s.0 c.requires.good c.round.ensures.segment s.1 in
-    omega (arith, k.lower (bulk c.args.code.now.lines) i.1.no_bulkier, some_made (2 ^ 64 - 1) _ s.0 s.2 c.if-now-eq0.false)
-
-pub rounds-preserved : goal.rounds-preserved
-rounds-preserved g c =
-    let i = c.rounds.invariant in
-    let s = c.in_ok-now.ensures.chain in
-    let d = rules_done_more _ _ _ _ _ _ i.0 s.0 c.requires.good c.round.ensures.segment i.3 i.1 s.1 in (
-      s.0 + i.0,
-      d,
-      c.saturating_add-made.ensures ∙ count_more (2 ^ 64 - 1) _ _ i.0 s.0 i.2 s.2,
-      c.round.ensures.out ∙ i.3,
-      λ e. some_more (2 ^ 64 - 1) c.rounds.made c.in_ok-now.now (omega arith) c.if-now-eq0.false (sym c.saturating_add-made.ensures ∙ e),
-      λ no. first_segment c.rounds.made c.args.code.now c.rounds.code i.4 i.5 c.round.ensures.segment,
-      c.in_ok-now.ensures.ready,
-    )
