@@ -33,7 +33,7 @@ use Rattle.c65_agree_frame.specs.Leads.{Leads}
 use Rattle.c65_agree_stmts.specs.Calling.{Calling}
 use Rattle.c65_agree_part.specs.Laws.{HasAddress}
 use Rattle.c65_agree_quick.specs.Laws.{IsNow}
-use Rattle.c65_agree_pointers.proofs.Moved.{IsMoved, is_moved, address_below}
+use Rattle.c65_agree_store.proofs.Moved.{IsMoved, is_moved, address_below}
 use Rattle.c65_agree_addresses.specs.Laws.{MembersArePlaced, MemberLinesAre, IsAddressedTree, TreesHaveAddresses}
 use Rattle.c65_agree_addresses.proofs.Near.{offset_leads}
 use Rattle.c65_agree_addresses.proofs.Objects.{objects_are_placed}

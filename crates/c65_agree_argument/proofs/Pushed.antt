@@ -17,7 +17,8 @@ use Rattle.c65_agree_state.specs.Exprs.{Ready}
 use Rattle.c65_agree_state.specs.Laws.{OnlyScratch}
 use Rattle.c65_agree_state.proofs.Followed.{ready_is_calm}
 use Rattle.c65_agree_state.proofs.Scratch.{scratch_changes}
-use Rattle.c65_agree_put.proofs.Stores.{item_is, HasFour, four_bytes, byte_item, word_item, long_item}
+use Rattle.c65_agree_put.proofs.Stores.{HasFour, four_bytes, byte_item, word_item, long_item}
+use Rattle.c65_agree_rows.proofs.Quiet.{item_is}
 use Rattle.c65_agree_frame.specs.Leads.{Leads, IsOn}
 use Rattle.c65_agree_frame.specs.Entries.{primary_bytes, HasTaken, IsPlainFrame}
 use Rattle.c65_agree_frame.proofs.Leads.{leads_as}

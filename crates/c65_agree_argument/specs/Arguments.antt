@@ -60,6 +60,11 @@ abbrev pub AreThere : Bool → Placing → State → List Argument → Type 0
 AreThere fast w t [] = Unit {0}
 AreThere fast w t (x ∷ xs) = IsThere (is_last fast xs) w t (sp_of t + waiting_bytes fast xs) x × AreThere fast w t xs
 
+-- what is left of the weight of the steps of these arguments
+abbrev pub left_of : Nodes → ℕ
+left_of none = 0
+left_of (some e es) = 2000 + left_of es
+
 -- their values above others, as the meaning has them
 abbrev pub piled : List Argument → List Value → List Value
 piled [] vs = vs
@@ -120,4 +125,11 @@ module _ (g : World) (a : Active) where
   ArgumentsFollow fast es pushed fresh = (n w p : ℕ) (k : List Item) (vs : List Value) (c : Scene) (q : Placing) (b : Banks) (t : State) (seen : Seen)
       → HasAt (lines_of g a) p (args_code a.frame pushed fresh fast es) → Ready g a pushed 0 c q b t → HasRoomFor a (need_of_all es) 2 c t → HasTurns g c.turns (place_in g a p) seen
       → RestOfArguments fast es pushed n w k vs (p + length (args_code a.frame pushed fresh fast es)) c q b t
+      → Follows g n w (Running (plan_all (unit_in g) es k) vs c) (place_in g a p) t seen
+
+  -- and leave so much of its weight
+  abbrev pub ArgumentsLeave : Bool → Nodes → ℕ → ℕ → Type 0
+  ArgumentsLeave fast es pushed fresh = (n w p : ℕ) (k : List Item) (vs : List Value) (c : Scene) (q : Placing) (b : Banks) (t : State) (seen : Seen)
+      → HasAt (lines_of g a) p (args_code a.frame pushed fresh fast es) → Ready g a pushed 0 c q b t → HasRoomFor a (need_of_all es) 2 c t → HasTurns g c.turns (place_in g a p) seen
+      → RestOfArguments fast es pushed n (w + left_of es) k vs (p + length (args_code a.frame pushed fresh fast es)) c q b t
       → Follows g n w (Running (plan_all (unit_in g) es k) vs c) (place_in g a p) t seen

@@ -11,7 +11,7 @@ use Rattle.c65_agree_state.specs.World.{World, unit_in, Active}
 use Rattle.c65_agree_state.specs.Exprs.{Ready, Valued, yield_of, ExpressionDoes, shape_in}
 use Rattle.c65_agree_put.specs.Laws.{IsScalar}
 use Rattle.c65_agree_frame.specs.Leads.{Leads}
-use Rattle.c65_agree_argument.specs.Arguments.{AreHeld, IsPushed, HasRoomFor, ArgumentDoes, ArgumentsDo, ArgumentsFollow}
+use Rattle.c65_agree_argument.specs.Arguments.{AreHeld, IsPushed, HasRoomFor, ArgumentDoes, ArgumentsDo, ArgumentsFollow, ArgumentsLeave}
 
 -- A value goes by its bytes, of which there are four at most, from the primary register to the software stack, where they have room.
 abbrev pub ValuesArePushed : Type 0
@@ -32,3 +32,8 @@ ScalarsArePassed = (g : World) (a : Active) (e : Typed) → yield_of (unit_in g)
 abbrev pub ArgumentsAreFollowed : Type 0
 ArgumentsAreFollowed = (g : World) (a : Active) (fast : Bool) (es : Nodes) (pushed fresh : ℕ)
     → IsPlacement g.code g.place → ArgumentsDo g a es → ArgumentsFollow g a fast es pushed fresh
+
+-- Each leaves weight for the lines of the called function's entry.
+abbrev pub ArgumentsLeaveWeight : Type 0
+ArgumentsLeaveWeight = (g : World) (a : Active) (fast : Bool) (es : Nodes) (pushed fresh : ℕ)
+    → IsPlacement g.code g.place → ArgumentsDo g a es → ArgumentsLeave g a fast es pushed fresh

@@ -1,5 +1,5 @@
 // Laws of arguments, each the contract of a function that does nothing.
-ghost use Rattle.c65_agree_argument.specs.Laws.{ArgumentsAreFollowed, ScalarsArePassed, ValuesArePushed};
+ghost use Rattle.c65_agree_argument.specs.Laws.{ArgumentsAreFollowed, ArgumentsLeaveWeight, ScalarsArePassed, ValuesArePushed};
 ghost use Rattle.c65_agree_argument.specs.Passed.{ArgumentsArePassed};
 
 /// A value that is passed goes to the software stack.
@@ -17,7 +17,12 @@ pub fn arguments_are_followed()
     ensures { ArgumentsAreFollowed }
 {}
 
-/// Arguments lie where the called function has its parameters.
+/// They leave weight for the entry of the called function.
+pub fn arguments_leave_weight()
+    ensures { ArgumentsLeaveWeight }
+{}
+
+/// Arguments lie where the called function takes its parameters from.
 pub fn arguments_are_passed()
     ensures { ArgumentsArePassed }
 {}

@@ -4,5 +4,6 @@
 mod laws;
 
 pub use laws::{
-    arguments_are_followed, arguments_are_passed, scalars_are_passed, values_are_pushed,
+    arguments_are_followed, arguments_are_passed, arguments_leave_weight, scalars_are_passed,
+    values_are_pushed,
 };

@@ -30,7 +30,7 @@ use Rattle.c65_agree_assign.specs.Laws.{IsAssigned, IsMeant, AssignmentsAreFollo
 use Rattle.c65_agree_assign.proofs.Stored.{numbers_are_stored}
 
 -- a number or a pointer is put
-put_is : (f : Shape) (c : Scene) (b o : ℕ) (v : Value) → IsScalar f → Fits f v → put false f c (values.Place b o) v ≡ stored c (write false f c.store b o v)
+pub put_is : (f : Shape) (c : Scene) (b o : ℕ) (v : Value) → IsScalar f → Fits f v → put false f c (values.Place b o) v ≡ stored c (write false f c.store b o v)
 put_is f c b o (Whole z) scalar fits = refl
 put_is f c b o Null scalar fits = refl
 put_is f c b o (values.Place d p) scalar fits = refl
@@ -41,7 +41,7 @@ put_is (Pointer size) c b o NoValue scalar fits = absurd fits
 put_is (Field t low width) c b o NoValue scalar fits = absurd scalar
 put_is (Area size) c b o NoValue scalar fits = absurd scalar
 
-size_is : (f : Shape) → IsScalar f → size_in f ≡ bytes_in (extent_in f)
+pub size_is : (f : Shape) → IsScalar f → size_in f ≡ bytes_in (extent_in f)
 size_is (Number I.SChar) scalar = refl
 size_is (Number I.UChar) scalar = refl
 size_is (Number I.Short) scalar = refl

@@ -16,10 +16,10 @@ use Rattle.c65_agree_state.specs.Exprs.{Ready}
 use Rattle.c65_agree_state.specs.Laws.{HasStacks}
 use Rattle.c65_agree_state.proofs.Followed.{ready_is_calm}
 use Rattle.c65_agree_state.proofs.Scratch.{constants_are_low}
-use Rattle.c65_agree_rows.proofs.Quiet.{listed_are_at}
+use Rattle.c65_agree_rows.proofs.Quiet.{listed_are_at, item_is}
 use Rattle.c65_agree_put.specs.Puts.{OnlyStored, AreLaid, MayPut, with_put, banks_in, AreTaken}
 use Rattle.c65_agree_put.proofs.Puts.{constant_beside, banks_follow, puts_are_taken}
-use Rattle.c65_agree_put.proofs.Stores.{listed_other, item_is}
+use Rattle.c65_agree_put.proofs.Stores.{listed_other}
 
 -- the machine stays calm while the bytes of a place are stored
 pub calm_by : (g : World) (a : Active) (pushed needs : ℕ) (c : Scene) (w : Placing) (k : Banks) (t u : State) (b : ℕ) (x : Block) (q : Spot) (o n : ℕ) → IsPlacement g.code g.place → Ready g a pushed needs c w k t → MayPut g a c w b x q o n → OnlyStored a (sp_of t) q o n t u → sp_of u ≡ sp_of t → IsCalm (setting_in g) u

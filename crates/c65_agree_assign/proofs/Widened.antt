@@ -52,11 +52,11 @@ use Rattle.c65_agree_assign.proofs.Assigned.{assignments_are_followed}
 -- ---- values
 
 -- a number or a pointer stands where the register is as before, and where it is brought into the range of its type
-record IsKeptBy (w : Placing) (f : Shape) (kind : IntType) (v : Value) (t : State) : Type 0 where
-  same : (u : State) → primary_of (width_of kind) u ≡ primary_of (width_of kind) t → ResultIs Valued w (width_in f) v u
-  brought : (u : State) → primary_of (width_of kind) u ≡ narrowed kind (primary_of (width_of kind) t) → ResultIs Valued w (width_in f) v u
+pub record IsKeptBy (w : Placing) (f : Shape) (kind : IntType) (v : Value) (t : State) : Type 0 where
+  pub same : (u : State) → primary_of (width_of kind) u ≡ primary_of (width_of kind) t → ResultIs Valued w (width_in f) v u
+  pub brought : (u : State) → primary_of (width_of kind) u ≡ narrowed kind (primary_of (width_of kind) t) → ResultIs Valued w (width_in f) v u
 
-number_kept : (w : Placing) (kind : IntType) (v : Value) (t : State) → Fits (Number kind) v → ResultIs Valued w (width_of kind) v t → IsKeptBy w (Number kind) kind v t
+pub number_kept : (w : Placing) (kind : IntType) (v : Value) (t : State) → Fits (Number kind) v → ResultIs Valued w (width_of kind) v t → IsKeptBy w (Number kind) kind v t
 number_kept w kind (Whole z) t fits r = record { same = λ u e. e ∙ r; brought = λ u e. e ∙ ap (narrowed kind) r ∙ words_in_range_stay kind z fits }
 number_kept w kind Opaque t fits r = record { same = λ u e. tt; brought = λ u e. tt }
 number_kept w kind Null t fits r = absurd fits
@@ -64,7 +64,7 @@ number_kept w kind (values.Place b o) t fits r = absurd fits
 number_kept w kind (Cells xs) t fits r = absurd fits
 number_kept w kind NoValue t fits r = absurd fits
 
-pointer_kept : (w : Placing) (size : ℕ) (v : Value) (t : State) → Fits (Pointer size) v → ResultIs Valued w Ax v t → IsKeptBy w (Pointer size) I.UInt v t
+pub pointer_kept : (w : Placing) (size : ℕ) (v : Value) (t : State) → Fits (Pointer size) v → ResultIs Valued w Ax v t → IsKeptBy w (Pointer size) I.UInt v t
 pointer_kept w size Null t fits r = record { same = λ u e. e ∙ r; brought = λ u e. e ∙ r }
 pointer_kept w size (values.Place b o) t fits r = record { same = λ u e. (r.0, r.1, e ∙ r.2); brought = λ u e. (r.0, r.1, e ∙ r.2) }
 pointer_kept w size Opaque t fits r = record { same = λ u e. tt; brought = λ u e. tt }

@@ -6,7 +6,7 @@ use Rattle.c65_csem.specs.Trees.{ObjectTy}
 use Rattle.c65_csem.specs.Places.{is_automatic, is_fixed, is_fixed_object}
 use Rattle.c65_csem.specs.declared.items.Class.{Class}
 use Rattle.c65_csem.specs.declared.items.Class.TheVariants as classes
-use Rattle.c65_meaning.specs.Store.{Block, Store, set_block}
+use Rattle.c65_meaning.specs.Store.{Block, Store, size_in_store, set_block}
 use Rattle.c65_meaning.specs.Shapes.{literal_block, object_block, first_block, object_in, object_size, lives_in_frame}
 use Rattle.c65_meaning.specs.Start.{initial_store, argv_block, text_block, with_texts, first_store, first_scene}
 use Rattle.c65_meaning.specs.Step.{params_of}
@@ -188,7 +188,7 @@ module _ (g : World) (names args : List (List ℕ)) (input : List ℕ) (t : Stat
   none_fixed = record { own = λ i b o n x q fixed at less lt e. absurd (not_there i n fixed lt b x q o at less e); objects = tt; once = tt }
 
 pub main_may_be_entered : MainMayBeEntered
-main_may_be_entered g names args input t k code placed start high program plain pointers inside =
+main_may_be_entered g names args input t k read code placed start high program plain pointers inside =
     let h : Given g names args input t = record { code = is_code g names code; placed = placed; start = start; high = high; program = program; plain = plain; pointers = pointers; inside = inside } in
     let b = the_first_store_stands g names args input false t code placed start high program plain pointers inside in
     record {
@@ -196,6 +196,7 @@ main_may_be_entered g names args input t k code placed start high program plain 
       shallow = λ n x d i at some. absurd (first_no_bank g args n d i at.place);
       symbols = b.symbols;
       fixed = none_fixed g names args input t h;
+      sizes = record { behind = omega arith; sizes = λ b lt. ap size_in_store (first_below g (params_of (slice_get (unit_in g).funcs g.main)) args b lt) };
       fresh = b.fresh;
       above = b.above;
       reached = b.reached;
@@ -203,6 +204,7 @@ main_may_be_entered g names args input t k code placed start high program plain 
       sealed = b.sealed;
       asked = refl;
       input = start.input;
+      read = read;
       output = start.output;
       ended = start.ended;
     }

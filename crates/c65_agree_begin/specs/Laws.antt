@@ -1,5 +1,5 @@
 -- Where main begins it may be entered (C90 5.1.2.2.1).
-use Rattle.std.specs.Prelude.{◌≡◌, ℕ, ◌≤◌, true, false, List, Ok, slice_get}
+use Rattle.std.specs.Prelude.{◌≡◌, ℕ, ◌<◌, ◌≤◌, true, false, List, Ok, slice_get, All}
 use Rattle.c65_csem.specs.Units.{IsProgram}
 use Rattle.c65_csem_names.specs.Initial.{HasStaticPointers}
 use Rattle.c65_csem_plain.specs.Plain.{IsPlain}
@@ -18,7 +18,7 @@ use Rattle.c65_agree_enter.specs.Entries.{MayEnter, FixedAreLow}
 -- regbank or where an object of a block has its one place for the whole run, and what lies on the software stack lies above what was pushed.
 abbrev pub MainMayBeEntered : Type 0
 MainMayBeEntered = (g : World) (names args : List (List ℕ)) (input : List ℕ) (t : State) (k : Banks)
-    → program_of g.parts g.main names g.modes ≡ Ok g.code → IsPlacement g.code g.place → IsStart g.code g.place args input t → stack_start ≤ sp_of t
+    → All (λ v. v < 256) input → program_of g.parts g.main names g.modes ≡ Ok g.code → IsPlacement g.code g.place → IsStart g.code g.place args input t → stack_start ≤ sp_of t
     → IsProgram (unit_in g) g.main → IsPlain names (unit_in g) g.main → HasStaticPointers (unit_in g) → objects_inside (unit_in g) (unit_in g).objects ≡ true
     → MayEnter g 0 (arguments_from g.code.main_args t) (first_scene (unit_in g) false (params_of (slice_get (unit_in g).funcs g.main)) args input) (first_placing g args) k t
 

@@ -14,15 +14,14 @@ use Rattle.c65_agree_state.specs.World.{World, unit_in, Active, IsCallOf}
 use Rattle.c65_agree_leave.specs.Laws.{params_in}
 use Rattle.c65_agree_call.specs.Calls.{BodyDoes}
 use Rattle.c65_agree_homes.specs.Turns.{CountsTurns}
-use Rattle.c65_agree_homes.specs.Frames.{IsCallIn, HasFewLabels, AllHaveFewLabels}
-use Rattle.c65_agree_homes.proofs.Own.{framed}
+use Rattle.c65_agree_homes.specs.Frames.{IsCallIn}
 use Rattle.c65_agree_function.proofs.Body.{functions_do}
 use Rattle.c65_agree_bodies.specs.Bodies.{for_steps, Allotted, IsCallWith, AllBodiesDo, AllHaveWork}
 use Rattle.c65_agree_bodies.specs.Laws.{BodiesDoForAll}
 use Rattle.c65_agree_bodies.proofs.Runs.{follows_still, between_still, turns_still}
 
 module _ (g : World) (names : List (List ℕ)) (z : Allotted) (code : program_of g.parts g.main names g.modes ≡ Ok g.code) (program : IsProgram (unit_in g) g.main) (plain : IsPlain names (unit_in g) g.main)
-    (few : AllHaveFewLabels g) (placed : IsPlacement g.code g.place) (counts : CountsTurns g) (gives : z.result g.main ≡ Number Int) (work : (n : ℕ) → AllBodiesDo (for_steps n g) z n → AllHaveWork (for_steps n g) z) where
+    (placed : IsPlacement g.code g.place) (counts : CountsTurns g) (gives : z.result g.main ≡ Number Int) (work : (n : ℕ) → AllBodiesDo (for_steps n g) z n → AllHaveWork (for_steps n g) z) where
   main_gives : (a : Active) → (a.func == g.main) ≡ true → z.result a.func ≡ Number Int
   main_gives a e = ap z.result (eqb-true a.func g.main e) ∙ gives
 
@@ -31,8 +30,7 @@ module _ (g : World) (names : List (List ℕ)) (z : Allotted) (code : program_of
   step : (n m : ℕ) → AllBodiesDo (for_steps n g) z n → AllBodiesDo (for_steps n g) z m
   step n m before a f body below vs j v h lt enough =
       let call : IsCallIn (for_steps n g) names a f = record { code = code; program = program; plain = plain; call = h.call; function = h.function } in
-      let labels : HasFewLabels (for_steps n g) a f body = few a.func f body a.frame h.function h.has_body (framed (for_steps n g) names a f call) in
-      functions_do (for_steps n g) names a f body (z.needs a.func) (z.result a.func) below vs j v call h.has_body labels placed h.high (turns_still g n counts) (main_gives a) (λ c q b t. work n before a f body below vs j v c q b t h enough)
+      functions_do (for_steps n g) names a f body (z.needs a.func) (z.result a.func) below vs j v call h.has_body placed h.high (turns_still g n counts) (main_gives a) (λ c q b t. work n before a f body below vs j v c q b t h enough)
 
   -- ---- one step more
 
@@ -53,4 +51,4 @@ module _ (g : World) (names : List (List ℕ)) (z : Allotted) (code : program_of
   fewer (suc n) a f body below vs j v h lt enough = all_still n (step n (suc n) (fewer n)) a f body below vs j v h lt enough
 
 pub bodies_do_for_all : BodiesDoForAll
-bodies_do_for_all g names z code program plain few placed counts gives work n m = step g names z code program plain few placed counts gives work n m (fewer g names z code program plain few placed counts gives work n)
+bodies_do_for_all g names z code program plain placed counts gives work n m = step g names z code program plain placed counts gives work n m (fewer g names z code program plain placed counts gives work n)

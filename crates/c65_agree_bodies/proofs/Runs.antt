@@ -17,7 +17,7 @@ use Rattle.c65_agree_lines.specs.Turns.{Turn}
 use Rattle.c65_agree_state.specs.World.{World, program_in, setting_in, Active}
 use Rattle.c65_agree_state.specs.Joins.{Joins, home_spot, spot_of}
 use Rattle.c65_agree_state.specs.Follows.{Agrees, Follows}
-use Rattle.c65_agree_state.specs.Stmts.{Between}
+use Rattle.c65_agree_between.specs.Stmts.{Between}
 use Rattle.c65_agree_homes.specs.Turns.{function_turns, heads_of, owns_by, owns_of, all_heads, all_owns, CountsTurns}
 use Rattle.c65_agree_bodies.specs.Bodies.{for_steps}
 
@@ -53,6 +53,8 @@ module _ (g : World) (m n : ℕ) where
     bank = j.bank;
     symbols = record { funcs = j.symbols.funcs; literals = j.symbols.literals; objects = j.symbols.objects };
     fixed = record { own = j.fixed.own; objects = j.fixed.objects; once = j.fixed.once };
+    sizes = j.sizes;
+    sized = j.sized;
     fresh = j.fresh;
     homes = λ i b e. j.homes i b e ∙ ap Some (spot_still a i (home_of a.frame i));
     rests = j.rests;
@@ -75,6 +77,7 @@ module _ (g : World) (m n : ℕ) where
     count_free = j.count_free;
     frames = j.frames;
     input = j.input;
+    read = j.read;
     output = j.output;
     ended = j.ended;
     bytes = j.bytes;

@@ -8,7 +8,6 @@ use Rattle.c65_code.specs.Placement.{IsPlacement}
 use Rattle.c65_genstmt.specs.Programs.{program_of}
 use Rattle.c65_agree_state.specs.World.{World, unit_in}
 use Rattle.c65_agree_homes.specs.Turns.{CountsTurns}
-use Rattle.c65_agree_homes.specs.Frames.{AllHaveFewLabels}
 use Rattle.c65_agree_bodies.specs.Bodies.{for_steps, Allotted, AllBodiesDo, AllHaveWork}
 
 -- A call takes a step before its body begins. So of n steps the bodies of called functions have fewer, and where with these all expressions
@@ -16,6 +15,6 @@ use Rattle.c65_agree_bodies.specs.Bodies.{for_steps, Allotted, AllBodiesDo, AllH
 abbrev pub BodiesDoForAll : Type 0
 BodiesDoForAll = (g : World) (names : List (List ℕ)) (z : Allotted)
     → program_of g.parts g.main names g.modes ≡ Ok g.code → IsProgram (unit_in g) g.main → IsPlain names (unit_in g) g.main
-    → AllHaveFewLabels g → IsPlacement g.code g.place → CountsTurns g → z.result g.main ≡ Number Int
+    → IsPlacement g.code g.place → CountsTurns g → z.result g.main ≡ Number Int
     → ((n : ℕ) → AllBodiesDo (for_steps n g) z n → AllHaveWork (for_steps n g) z)
     → (n m : ℕ) → AllBodiesDo (for_steps n g) z m

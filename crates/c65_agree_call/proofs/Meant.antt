@@ -5,14 +5,14 @@ use Rattle.c65_ctype.specs.Trees.{Ty}
 use Rattle.c65_csem.specs.Trees.{Stmt, FuncTy, UnitTy}
 use Rattle.c65_meaning.specs.declared.action.Action.TheVariants.{CalleeType, NoResult, FixedAgain}
 use Rattle.c65_meaning.specs.Why.{Why, By, ◌>>=◌}
-use Rattle.c65_meaning.specs.Store.{Store, Value, Whole, Null, Place, Opaque, Cells, NoValue, Shape, write}
+use Rattle.c65_meaning.specs.Store.{Cell, Store, Value, Whole, Null, Place, Opaque, Cells, NoValue, Shape, write}
 use Rattle.c65_meaning.specs.Shapes.{object_in, object_shape}
 use Rattle.c65_meaning.specs.Items.{Item, Invoke, Leave, plan_stmt}
 use Rattle.c65_meaning.specs.Calls.{is_variadic, accepts}
 use Rattle.c65_meaning.specs.Costs.{has_fixed}
 use Rattle.c65_meaning.specs.Sem.{IsDefined, outcome_of}
 use Rattle.c65_meaning.specs.State as meaning
-use Rattle.c65_meaning.specs.State.{Scene, Undefined, Deep, Running, Frame as Call, turned, soft_sum, hard_sum, name_object}
+use Rattle.c65_meaning.specs.State.{Scene, Undefined, Deep, Running, Frame as Call, turned, soft_sum, hard_sum, name_object, name_rest}
 use Rattle.c65_meaning.specs.Step.{stored, put, begin_object, are_values, is_active, is_deep, new_frame, with_params, with_rest, further, with_passed, unless_deep, called, accepted, unless_refused, invoked, steps}
 use Rattle.c65_code.specs.LineState.{Place as Spot, State}
 use Rattle.c65_code.specs.Comes.{Seen}
@@ -71,6 +71,30 @@ params_sums u (i ∷ is) (v ∷ args) c d e = go (λ c1 f. params_sums u is args
 
 abbrev rest_begun : UnitTy → FuncTy → List Ty → List Value → Bool → Scene → Result Scene Why
 rest_begun u func types args more x = Ok (with_rest more (further u func types args) x)
+
+rest_soft : (fs : List Call) (b : ℕ) → soft_sum (name_rest fs b) ≡ soft_sum fs
+rest_soft [] b = refl
+rest_soft (f ∷ fs) b = refl
+
+rest_hard : (fs : List Call) (b : ℕ) → hard_sum (name_rest fs b) ≡ hard_sum fs
+rest_hard [] b = refl
+rest_hard (f ∷ fs) b = refl
+
+-- nor does the block of further arguments cost anything
+rest_sums : (more : Bool) (xs : List Cell) (c : Scene) → SameSums c (with_rest more xs c)
+rest_sums true xs c = record { turns = refl; free = refl; soft = rest_soft c.frames c.next; hard = rest_hard c.frames c.next }
+rest_sums false xs c = record { turns = refl; free = refl; soft = refl; hard = refl }
+
+pub passed_sums : (u : UnitTy) (func : FuncTy) (types : List Ty) (args : List Value) (c d : Scene) → with_passed u func types args c ≡ Ok d → SameSums c d
+passed_sums u func types args c d e = go (with_params u func.params args c) refl e
+  where
+    go : (r : Result Scene Why) → with_params u func.params args c ≡ r → (r >>= rest_begun u func types args (is_variadic func.ty)) ≡ Ok d → SameSums c d
+    go (Err why) f h = cc
+    go (Ok x) f h =
+        let same : with_rest (is_variadic func.ty) (further u func types args) x ≡ d = cc in
+        let one = params_sums u func.params args c x f in
+        let later = rest_sums (is_variadic func.ty) (further u func types args) x in
+        subst (SameSums c) same (record { turns = later.turns ∙ one.turns; free = later.free ∙ one.free; soft = later.soft ∙ one.soft; hard = later.hard ∙ one.hard })
 
 -- a function that takes no further arguments has but its parameters
 pub plain_begun : (u : UnitTy) (func : FuncTy) (types : List Ty) (args : List Value) (c d : Scene) → is_variadic func.ty ≡ false → with_passed u func types args c ≡ Ok d → with_params u func.params args c ≡ Ok d

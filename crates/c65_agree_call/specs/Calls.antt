@@ -24,17 +24,19 @@ use Rattle.c65_genentry.specs.Entry.{entry_code}
 use Rattle.c65_genentry.specs.Ends.{end_code}
 use Rattle.c65_agree_store.specs.Stands.{Placing, Banks}
 use Rattle.c65_agree_state.specs.World.{World, unit_in, setting_in, Active, lines_of, place_in, HasAt, IsPlaced, HasTurns}
-use Rattle.c65_agree_state.specs.Joins.{Joins, spot_of, call_bytes}
+use Rattle.c65_agree_state.specs.Joins.{Joins, call_bytes}
 use Rattle.c65_agree_state.specs.Follows.{Follows}
 use Rattle.c65_agree_state.specs.Exprs.{Ready, Valued, MayFit, ResultIs, Kept, width_in}
-use Rattle.c65_agree_state.specs.Stmts.{Between, ReturnLeads}
+use Rattle.c65_agree_between.specs.Stmts.{Between, ReturnLeads}
 use Rattle.c65_agree_frame.specs.Ends.{IsPrimary}
-use Rattle.c65_agree_frame.specs.Entries.{arriving, IsPlainFrame}
-use Rattle.c65_agree_leave.specs.Calls.{IsBehind}
+use Rattle.c65_agree_frame.specs.Entries.{arriving}
+use Rattle.c65_agree_leave.specs.Calls.{IsEntered, IsBehind}
 use Rattle.c65_agree_leave.specs.Laws.{params_in}
-use Rattle.c65_agree_enter.specs.Params.{ArePassed, AreDistinct}
-use Rattle.c65_agree_enter.specs.Entries.{HaveHomes, banks_with}
-use Rattle.c65_agree_enter.specs.Laws.{IsCalled, IsAtEntry, with_arriving}
+use Rattle.c65_agree_registers.specs.Checks.{asked_by}
+use Rattle.c65_agree_registers.specs.Entries.{HasMoves}
+use Rattle.c65_agree_enter.specs.Params.{AreDistinct}
+use Rattle.c65_agree_enter.specs.Entries.{HaveHomes, banks_with, HasEntered}
+use Rattle.c65_agree_enter.specs.Laws.{IsCalled, IsAtEntry, AllPassed}
 
 -- ---- the line
 
@@ -78,37 +80,42 @@ pub record IsMeant (u : UnitTy) (callee : Ty) (types : List Ty) (args : List Val
 
 -- ---- the function
 
--- what holds of the call, whatever the machine leaves open: the scene and the state belong together, the called function's frame lies below
--- what the outer function has there, and its costs leave room
-pub record MayCall (g : World) (outer a : Active) (frame : Frame) (passed cost needs : ℕ) (c : Scene) (w : Placing) (k : Banks) (t : State) : Type 0 where
+-- what holds of any call, whatever the machine leaves open: the scene and the state belong together, and the called function's frame lies
+-- below what the outer function has there
+pub record IsBelow (g : World) (outer a : Active) (frame : Frame) (passed : ℕ) (c : Scene) (w : Placing) (k : Banks) (t : State) : Type 0 where
   pub joins : Joins g outer c w k t
   pub within : sp_of t + passed ≤ outer.base
   pub none_pushed : t.pushed ≡ []
   pub behind : a.behind ≡ frame ∷ outer.behind
   pub pushed : frame.pushed ≡ t.pushed
   pub top : a.base + call_bytes a ≡ sp_of t + passed
+
+-- the function takes no further arguments, and its costs leave room, also for what its entry asks for where it checks the stacks
+pub record MayCall (g : World) (outer a : Active) (frame : Frame) (passed cost needs : ℕ) (c : Scene) (w : Placing) (k : Banks) (t : State) : Type 0 where
+  pub below : IsBelow g outer a frame passed c w k t
   pub called : IsCalled g a outer.base cost needs (params_in g a) c
   pub none_raised : a.raised ≡ 0
+  pub asked : stack_end + asked_by a.frame.check ≤ sp_of t + (cost + soft_sum c.frames)
 
--- What stands of a call of a function that takes no further arguments, whether or not its step is defined: it may still be too deep, or
--- begin an object again that has one place.
-pub record CallStands (g : World) (outer a : Active) (frame : Frame) (passed needs : ℕ) (func : FuncTy) (body : Stmt) (types : List Ty) (c : Scene) (w : Placing) (k : Banks) (t : State) : Type 0 where
-  pub joins : Joins g outer c w k t
-  pub within : sp_of t + passed ≤ outer.base
-  pub none_pushed : t.pushed ≡ []
-  pub behind : a.behind ≡ frame ∷ outer.behind
-  pub pushed : frame.pushed ≡ t.pushed
-  pub top : a.base + call_bytes a ≡ sp_of t + passed
-  pub plain : IsPlainFrame a.frame
-  pub none_raised : a.raised ≡ 0
+-- What stands of any call, whether or not its step is defined: it may still be too deep, or begin an object again that has one place.
+pub record IsMade (g : World) (outer a : Active) (frame : Frame) (passed needs : ℕ) (func : FuncTy) (body : Stmt) (types : List Ty) (c : Scene) (w : Placing) (k : Banks) (t : State) : Type 0 where
+  pub below : IsBelow g outer a frame passed c w k t
+  pub moves : HasMoves a.frame
   pub is_function : slice_get (unit_in g).funcs a.func ≡ Some func
   pub has_body : func.body ≡ Some body
-  pub all_named : is_variadic func.ty ≡ false
   pub calls : a.calls ≡ c.frames
   pub first : a.first ≡ c.next
   pub homes : HaveHomes g a (params_in g a)
   pub distinct : AreDistinct (params_in g a)
   pub room : stack_end + 8 * needs + a.spare ≤ a.base + (cost_of (unit_in g) types body + soft_sum c.frames)
+  pub asks : stack_end + asked_by a.frame.check ≤ sp_of t + (cost_of (unit_in g) types body + soft_sum c.frames)
+
+-- so it is of a function that takes no further arguments
+pub record CallStands (g : World) (outer a : Active) (frame : Frame) (passed needs : ℕ) (func : FuncTy) (body : Stmt) (types : List Ty) (c : Scene) (w : Placing) (k : Banks) (t : State) : Type 0 where
+  pub made : IsMade g outer a frame passed needs func body types c w k t
+  pub fixed : a.frame.variadic ≡ false
+  pub none_raised : a.raised ≡ 0
+  pub all_named : is_variadic func.ty ≡ false
 
 -- the lines of the function: its entry, and its end at label 0
 pub record HasEnds (g : World) (a : Active) (e : ℕ) : Type 0 where
@@ -116,11 +123,16 @@ pub record HasEnds (g : World) (a : Active) (e : ℕ) : Type 0 where
   pub entry : HasAt (lines_of g a) 0 (entry_code a.frame)
   pub end : HasAt (lines_of g a) e (Label 0 ∷ end_code a.frame)
 
--- each argument lies where its parameter's home is, or arrives in registers where it is put there
-pub record HasPassed (g : World) (a : Active) (args : List Value) (w : Placing) (k : Banks) (t : State) : Type 0 where
+-- Behind the lines of its entry the first statement may begin, and what the caller has is there again when the function is left.
+pub record HasBegun (g : World) (outer a : Active) (frame : Frame) (passed needs : ℕ) (c0 : Scene) (w0 : Placing) (k0 : Banks) (t0 : State) (c1 : Scene) (t1 : State) : Type 0 where
+  pub entered : HasEntered g a needs (params_in g a) c0 w0 k0 t0 c1 t1
+  pub keeps : IsEntered a outer frame passed c0 w0 k0 t0 c1 entered.placing (banks_with a t1 k0) t1
+
+-- the arguments lie where the entry takes the parameters from
+pub record HasCome (g : World) (a : Active) (args : List Value) (w : Placing) (t : State) : Type 0 where
   pub stacked : a.base + (a.frame.soft + (saved_bytes a.frame.bank + length (arriving a.frame.last t))) ≡ sp_of t
   pub few : length (arriving a.frame.last t) ≤ a.frame.stacked
-  pub lies : ArePassed (unit_in g) w (with_arriving a t) (banks_with a t k) (spot_of g a) (params_in g a) args
+  pub lies : AllPassed g a w t (params_in g a) args
 
 -- From the first statement on, where the blocks that begin are the call's own, the lines do the work of the body, for up to n steps, where
 -- the function's end is followed within this weight.

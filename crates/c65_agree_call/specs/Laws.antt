@@ -25,14 +25,14 @@ use Rattle.c65_agree_store.specs.Stands.{Placing, Banks}
 use Rattle.c65_agree_state.specs.World.{World, unit_in, setting_in, Active, lines_of, place_in, total_in, owned_at, HasAt, HasTurns}
 use Rattle.c65_agree_state.specs.Follows.{Follows}
 use Rattle.c65_agree_state.specs.Exprs.{Ready, Valued, ResultIs}
-use Rattle.c65_agree_state.specs.Stmts.{HasCall}
+use Rattle.c65_agree_between.specs.Stmts.{HasCall}
 use Rattle.c65_agree_frame.specs.Leads.{Leads, IsOn}
 use Rattle.c65_agree_frame.specs.Ends.{end_cost}
-use Rattle.c65_agree_frame.specs.Entries.{IsPlainFrame, entry_cost}
 use Rattle.c65_agree_leave.specs.Laws.{params_in}
+use Rattle.c65_agree_registers.specs.Entries.{HasMoves, register_cost}
 use Rattle.c65_agree_enter.specs.Entries.{FixedAreLow}
 use Rattle.c65_agree_enter.specs.Laws.{IsAtEntry}
-use Rattle.c65_agree_call.specs.Calls.{frame_behind, IsCallFrom, IsPassedIn, GoesIn, IsPut, IsMeant, MayCall, CallStands, HasEnds, HasPassed, BodyDoes, GoesOnBehind}
+use Rattle.c65_agree_call.specs.Calls.{frame_behind, IsCallFrom, IsPassedIn, GoesIn, IsPut, IsMeant, MayCall, CallStands, HasEnds, HasCome, BodyDoes, GoesOnBehind}
 
 -- ---- the line
 
@@ -66,16 +66,16 @@ CallsAreMeant = (g : World) (callee : Ty) (types : List Ty) (args vs values : Li
 
 -- ---- the function
 
--- From the first line of a function that takes no further arguments, with no parameter in regbank, to the line behind the call: where its
--- body does its work and the rest is followed behind the call, the whole is.
+-- From the first line of a function that takes no further arguments to the line behind the call: where its body does its work and the rest
+-- is followed behind the call, the whole is.
 abbrev pub FunctionsAreFollowed : Type 0
 FunctionsAreFollowed = (g : World) (outer a : Active) (frame : Frame) (passed cost needs n weight e : ℕ) (body : Stmt) (result : Shape) (args vs : List Value) (below : List Item)
     (call : Call) (calls : List Call) (c0 c1 : Scene) (w0 : Placing) (k0 : Banks) (t0 t : State) (seen : Seen)
-    → IsPlacement g.code g.place → FixedAreLow g → MayCall g outer a frame passed cost needs c0 w0 k0 t0 → IsPlainFrame a.frame → c0.frames ≡ call ∷ calls
-    → IsAtEntry a t0 t → HasPassed g a args w0 k0 t → with_params (unit_in g) (params_in g a) args (new_frame (unit_in g) a.func cost c0) ≡ Ok c1
+    → IsPlacement g.code g.place → FixedAreLow g → MayCall g outer a frame passed cost needs c0 w0 k0 t0 → HasMoves a.frame → c0.frames ≡ call ∷ calls
+    → IsAtEntry a t0 t → HasCome g a args w0 t → with_params (unit_in g) (params_in g a) args (new_frame (unit_in g) a.func cost c0) ≡ Ok c1
     → HasEnds g a e → HasTurns g c0.turns (place_in g a 0) seen
     → BodyDoes g a needs body result below vs n (end_cost a.frame + weight) → GoesOnBehind g outer a frame passed result below vs n weight c0 w0 k0 t0
-    → Follows g n (entry_cost a.frame + (end_cost a.frame + weight)) (Running (plan_stmt (unit_in g) 0 body (Leave ∷ below)) vs c1) (place_in g a 0) t seen
+    → Follows g n (register_cost a.frame + (end_cost a.frame + weight)) (Running (plan_stmt (unit_in g) 0 body (Leave ∷ below)) vs c1) (place_in g a 0) t seen
 
 -- ---- the whole
 
@@ -90,13 +90,13 @@ pub record MayGo (g : World) (outer a : Active) (frame : Frame) (reads : RegSet)
   pub waits : taken types [] values ≡ Some (args, Place a.func 0 ∷ vs)
   pub ends : HasEnds g a e
   pub owns : 1 ≤ owned_at g.owns (place_in g outer p)
-  pub passes : (u : State) → IsAtEntry a t u → IsPassedIn reads t u → HasPassed g a args w k u
+  pub passes : (u : State) → IsAtEntry a t u → IsPassedIn reads t u → HasCome g a args w u
   pub does : (j : ℕ) → j < most → BodyDoes g a needs body result below vs j (end_cost a.frame + weight)
   pub goes : (j : ℕ) → j < most → GoesOnBehind g outer a frame passed result below vs j weight (turned c) w k t
 
 -- the step of a call has the weight for its line, the entry and the end of the function
 abbrev pub whole_cost : Active → ℕ
-whole_cost a = 8 + (entry_cost a.frame + end_cost a.frame)
+whole_cost a = 8 + (register_cost a.frame + end_cost a.frame)
 
 -- A call by name does the step of a call, and all that it leads to up to the line behind it.
 abbrev pub CallsByNameAreFollowed : Type 0

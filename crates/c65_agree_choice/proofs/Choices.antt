@@ -28,7 +28,7 @@ use Rattle.c65_agree_state.specs.World.{World, Active, lines_of, place_in, HasAt
 use Rattle.c65_agree_state.specs.Exprs.{Ready}
 use Rattle.c65_agree_state.proofs.Nodes.{has_front, has_back}
 use Rattle.c65_agree_state.proofs.Followed.{follows_weaken}
-use Rattle.c65_agree_state.proofs.Parts.{between_is_ready}
+use Rattle.c65_agree_between.proofs.Between.{between_is_ready}
 use Rattle.c65_agree_stmts.specs.Choices.{case_of, label_or}
 use Rattle.c65_agree_choice.specs.Laws.{ChoicesLead}
 use Rattle.c65_agree_choice.proofs.Numbers.{same_of_word, other_of_word, own_byte, bytes_are_low}

@@ -233,7 +233,7 @@ module _ (g : World) (a : Active) (pushed needs : ℕ) (c : Scene) (w : Placing)
 -- a branch behind lines that have ended, by a truth that the flags tell
 module _ (g : World) (a : Active) (m : Manner) (f : Shape) (s : Bool) (to pushed needs n weight p end : ℕ) (ends : suc p ≡ end) (k : List Item) (vs : List Value) (c : Scene) (w : Placing) (b : Banks) (t : State) (rest : RestOfBranch g a m f s to n weight end k vs c w b t)
     (o : ℕ) (lt : o < n) (v : Value) (c2 : Scene) (w2 : Placing) (b2 : Banks) (u : State) (later : Seen) (ready : Ready g a pushed needs c2 w2 b2 u) (kept : Kept g a c w b t c2 w2 b2 u) (left : IsLeft m c t c2 u) (fit : MayFit Valued f v) where
-  branch_tests : (op : Op) → form_of (branch op to) ≡ Branch op to → HasAt (lines_of g a) p (branch op to ∷ []) → Tells c2.store v s (is_taken op u.regs) → HasTurns g c2.turns (place_in g a p) later → Follows g o (2 + (weight + 2600 + m.over)) (Running k (v ∷ vs) c2) (place_in g a p) u later
+  pub branch_tests : (op : Op) → form_of (branch op to) ≡ Branch op to → HasAt (lines_of g a) p (branch op to ∷ []) → Tells c2.store v s (is_taken op u.regs) → HasTurns g c2.turns (place_in g a p) later → Follows g o (2 + (weight + 2600 + m.over)) (Running k (v ∷ vs) c2) (place_in g a p) u later
   branch_tests op formed has told turned =
       let taken : Bool = is_taken op u.regs in
       let at : IsAtLine (setting_in g) a.symbol p u (Branch op to) = record { line = branch op to; there = has.0; formed = formed; calm = (ready_is_calm g a pushed needs c2 w2 b2 u ready).calm; within = tt; running = ready.joins.ended } in

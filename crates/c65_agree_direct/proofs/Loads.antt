@@ -22,12 +22,12 @@ use Rattle.c65_genload.specs.Conversions.{size_of}
 use Rattle.c65_gendirect.specs.declared.bytes.OperandByte.{OperandByte}
 use Rattle.c65_gendirect.specs.declared.bytes.OperandByte.TheVariants as operands
 use Rattle.c65_gendirect.specs.Bytes.{place_byte}
-use Rattle.c65_agree_store.specs.Stands.{Spot, At, Banked, Placing, Banks, ValueIs, IsAt, LiesIn, beyond}
+use Rattle.c65_agree_store.specs.Stands.{Spot, At, Banked, Placing, Banks, ValueIs, IsAt, LiesIn, beyond, stored_at}
 use Rattle.c65_agree_store.specs.Laws.{number_in}
 use Rattle.c65_agree_state.specs.World.{World, Active}
 use Rattle.c65_agree_state.specs.Exprs.{Ready, width_in}
 use Rattle.c65_agree_numbers.specs.Words.{word_of, narrowed}
-use Rattle.c65_agree_places.specs.Places.{spot_in, IsReached, stored_at}
+use Rattle.c65_agree_places.specs.Places.{spot_in, IsReached}
 use Rattle.c65_agree_places.proofs.Held.{held_bytes_are_open, numbers_are_there, pointers_are_there}
 use Rattle.c65_agree_put.specs.Laws.{IsScalar}
 use Rattle.c65_agree_put.proofs.Stores.{data_is_low}
@@ -37,7 +37,7 @@ use Rattle.c65_agree_load.proofs.Fetched.{fits}
 use Rattle.c65_agree_direct.specs.Operands.{byte_in, MayRead, register_bytes}
 use Rattle.c65_agree_direct.proofs.Bytes.{sizes_agree, fits_register, read_byte, read_number}
 use Rattle.c65_agree_direct.proofs.Spots.{LiesThere, IsTold}
-use Rattle.c65_agree_direct.proofs.Values.{bytes_at, Tells, IsKept}
+use Rattle.c65_agree_direct.proofs.Values.{bytes_at, Tells, IsInRegbank, IsKept}
 
 -- a value that is read lies in a live block
 record IsRead (f : Shape) (s : Store) (b o : ℕ) (v : Value) : Type 0 where
@@ -76,6 +76,16 @@ numbers_beyond t q o (suc n) i =
 open_low : (g : World) (placed : IsPlacement g.code g.place) (bound n : ℕ) → IsOpen g.place bound n → n < 65520
 open_low g placed bound n (inl d) = let low = data_is_low g placed n d in omega (arith, low)
 open_low g placed bound n (inr h) = h.1
+
+least : (kind : IntType) → 0 < size_of kind
+least I.SChar = omega arith
+least I.UChar = omega arith
+least I.Short = omega arith
+least I.UShort = omega arith
+least I.Int = omega arith
+least I.UInt = omega arith
+least I.Long = omega arith
+least I.ULong = omega arith
 
 pub most : (kind : IntType) → size_of kind ≤ 4
 most I.SChar = omega arith
@@ -187,8 +197,14 @@ module _ (g : World) (a : Active) (pushed needs : ℕ) (place : Place) (f : Shap
       go (Field kind low width) s v e fit = absurd s
       go (Area n) s v e fit = absurd s
 
+  in_regbank : (s : Place) → CanLoad g t (spot_in g a t s) size → IsInRegbank s
+  in_regbank (Bank n) h = let some = least (kind_in f) in omega (arith, h, some)
+  in_regbank (Near n) h = tt
+  in_regbank (Data s n) h = tt
+  in_regbank (Far n) h = tt
+
   pub is_kept : IsKept g a c w t (width_in f) place (kind_in f) v
-  is_kept = record { fits = width_is f scalar; bytes = bytes_are_read g a t place (kind_in f) placed lies.told can; value = tells }
+  is_kept = record { fits = width_is f scalar; bytes = bytes_are_read g a t place (kind_in f) placed lies.told can; bank = in_regbank place can; value = tells }
 
   pub loaded_fits : Fits f v
   loaded_fits = value_fits

@@ -46,9 +46,9 @@ abbrev pub IsKnown : Place → Type 0
 IsKnown (Far at) = ⊥
 IsKnown place = Unit {0}
 
--- the block of one at a symbol, also where it has ended
+-- the block of one at a symbol, also where it has ended; where the symbol's address has 16 bits, so has that of the place
 abbrev pub IsAtSymbol : World → Placing → Place → ℕ → ℕ → Type 0
-IsAtSymbol g w (Data sym at) b o = (x : ℕ) × (w b ≡ Some (At x)) × ((x + o) % 65536 ≡ located g.place sym at)
+IsAtSymbol g w (Data sym at) b o = (x : ℕ) × (w b ≡ Some (At x)) × ((x + o) % 65536 ≡ located g.place sym at) × (g.place.address sym.0 < 65536 → x + o < 65536)
 IsAtSymbol g w place b o = Unit {0}
 
 -- one byte tells what lies so far above sp, for four bytes, and two what lies so far behind a symbol
@@ -82,7 +82,7 @@ module _ (g : World) (a : Active) (pushed needs : ℕ) (c : Scene) (w : Placing)
   pub literal_lies : (l : ℕ) → l < length g.parts.literals.items → LiesThere g a c w t (Data (literal_symbol (numbers_of g.parts) l) 0) (literal_block (unit_in g) l) 0
   literal_lies l lt = record {
     meant = whole_is_meant g a c w t (Data (literal_symbol (numbers_of g.parts) l) 0) (literal_block (unit_in g) l) (λ x q at. literals_are_at_symbols g a c w k t l x q r.joins lt at);
-    symbol = (g.place.address (literal_symbol (numbers_of g.parts) l).0, r.joins.symbols.literals l lt, refl);
+    symbol = (g.place.address (literal_symbol (numbers_of g.parts) l).0, r.joins.symbols.literals l lt, refl, λ h. omega (arith, h));
     told = omega arith;
   }
 
@@ -90,7 +90,7 @@ module _ (g : World) (a : Active) (pushed needs : ℕ) (c : Scene) (w : Placing)
   pub lasting_lies : (i : ℕ) → lives_in_frame (object_in (unit_in g) i) ≡ false → i < length g.parts.objects.items → LiesThere g a c w t (Data (object_symbol (numbers_of g.parts) i) 0) (object_block (unit_in g) i) 0
   lasting_lies i lasts lt = record {
     meant = whole_is_meant g a c w t (Data (object_symbol (numbers_of g.parts) i) 0) (object_block (unit_in g) i) (λ x q at. objects_are_at_symbols g a c w k t i x q r.joins lasts lt at);
-    symbol = (symbol_at g i, r.joins.symbols.objects i lasts lt, refl);
+    symbol = (symbol_at g i, r.joins.symbols.objects i lasts lt, refl, λ h. omega (arith, h));
     told = omega arith;
   }
 
@@ -118,7 +118,7 @@ module _ (g : World) (a : Active) (pushed needs : ℕ) (c : Scene) (w : Placing)
     own_lies : (h : Option Home) → home_of a.frame i ≡ h → IsKnown (place_at a.frame pushed i h) → LiesThere g a c w t (place_at a.frame pushed i h) b 0
     own_lies None e known = record {
       meant = whole_is_meant g a c w t (Data (object_symbol (numbers_of g.parts) i) 0) b (λ x q at. at_home (low_by None e refl) x q at ∙ ap (λ z. spot_in g a t (home_place g pushed i z)) e);
-      symbol = (symbol_at g i, r.joins.homes i b named ∙ ap (λ z. Some (home_spot g a i z)) e, refl);
+      symbol = (symbol_at g i, r.joins.homes i b named ∙ ap (λ z. Some (home_spot g a i z)) e, refl, λ h. omega (arith, h));
       told = omega arith;
     }
     own_lies (Some (homes.Bank n)) e known = record {
@@ -176,7 +176,7 @@ module _ (g : World) (a : Active) (c : Scene) (w : Placing) (k : Banks) (t : Sta
   near_part at few h = record { meant = λ x q is. ((h.meant x q is).0, ap At (omega arith) ∙ ap (λ s. beyond s n) (h.meant x q is).1 ∙ beyond_both q o n); symbol = tt; told = few }
 
   data_part : (sm : Sym) (at : ℕ) → LiesThere g a c w t (Data sm at) b o → LiesThere g a c w t (Data sm (more at (n % 65536))) b (o + n)
-  data_part sm at h = record { meant = λ x q is. ((h.meant x q is).0, there q (lies x q is) (h.meant x q is).1); symbol = (h.symbol.0, h.symbol.1, omega (arith, h.symbol.2)); told = omega arith }
+  data_part sm at h = record { meant = λ x q is. ((h.meant x q is).0, there q (lies x q is) (h.meant x q is).1); symbol = (h.symbol.0, h.symbol.1, omega (arith, h.symbol.2), λ _. omega (arith, fits, (lies l.block (At h.symbol.0) (record { is = l.is; live = l.live; place = h.symbol.1 })).1)); told = omega arith }
     where
       there : (q : Spot) → LiesIn q l.block.size → At (located g.place sm at) ≡ beyond q o → At (located g.place sm (more at (n % 65536))) ≡ beyond q (o + n)
       there (At p) low e = let same : located g.place sm at ≡ p + o = cc in ap At (omega (arith, same, low.1, fits))
@@ -210,7 +210,7 @@ module _ (g : World) (a : Active) (pushed needs more_needs : ℕ) (c : Scene) (w
   same_symbol : (place : Place) (b o : ℕ) → IsAtSymbol g w place b o → IsAtSymbol g w2 place b o
   same_symbol (Bank at) b o h = tt
   same_symbol (Near at) b o h = tt
-  same_symbol (Data s at) b o h = (h.0, grows b (At h.0) h.1, h.2)
+  same_symbol (Data s at) b o h = (h.0, grows b (At h.0) h.1, h.2, h.3)
   same_symbol (Far at) b o h = tt
 
   pub lies_later : (place : Place) (b o : ℕ) → IsKnown place → LiesThere g a c w t place b o → LiesThere g a c w2 u place b o

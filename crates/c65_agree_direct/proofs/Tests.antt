@@ -67,12 +67,12 @@ byte_there (Near at) i known = (_, refl)
 byte_there (Data s at) i known = (_, refl)
 byte_there (Far at) i known = absurd known
 
-record HasOwn (g : World) (t : State) (place : Place) (kind : IntType) (f : ℕ → ℕ) : Type 0 where
-  first : OperandByte
-  behind : List OperandByte
-  is : own_bytes (Kept place kind) (extent_of kind) ≡ first ∷ behind
-  covers : Covers g t f (first ∷ behind) 0
-  size : length (first ∷ behind) ≡ size_of kind
+pub record HasOwn (g : World) (t : State) (place : Place) (kind : IntType) (f : ℕ → ℕ) : Type 0 where
+  pub first : OperandByte
+  pub behind : List OperandByte
+  pub is : own_bytes (Kept place kind) (extent_of kind) ≡ first ∷ behind
+  pub covers : Covers g t f (first ∷ behind) 0
+  pub size : length (first ∷ behind) ≡ size_of kind
 
 module _ (g : World) (t : State) (place : Place) (kind : IntType) (f : ℕ → ℕ) (known : IsKnown place) (there : (i : ℕ) (x : OperandByte) → i < size_of kind → place_byte place i ≡ Some x → MayRead g t x × (byte_in g t x ≡ f i)) where
   one : size_of kind ≡ 1 → own_bytes (Kept place kind) (extent_of kind) ≡ alone (place_byte place 0) → HasOwn g t place kind f
@@ -107,7 +107,7 @@ module _ (g : World) (t : State) (place : Place) (kind : IntType) (f : ℕ → �
         size = sym size;
       }
 
-own : (g : World) (t : State) (place : Place) (kind : IntType) (f : ℕ → ℕ) → IsKnown place → ((i : ℕ) (x : OperandByte) → i < size_of kind → place_byte place i ≡ Some x → MayRead g t x × (byte_in g t x ≡ f i)) → HasOwn g t place kind f
+pub own : (g : World) (t : State) (place : Place) (kind : IntType) (f : ℕ → ℕ) → IsKnown place → ((i : ℕ) (x : OperandByte) → i < size_of kind → place_byte place i ≡ Some x → MayRead g t x × (byte_in g t x ≡ f i)) → HasOwn g t place kind f
 own g t place I.SChar f known there = one g t place I.SChar f known there refl refl
 own g t place I.UChar f known there = one g t place I.UChar f known there refl refl
 own g t place I.Short f known there = two g t place I.Short f known there refl refl
@@ -178,7 +178,7 @@ module _ (g : World) (a : Active) (pushed needs : ℕ) (c : Scene) (w : Placing)
   sum kind = number_in f (size_of kind) 0
 
   -- the bytes are all 0 where the value is false
-  truth_tells : (shape : Shape) (v : Value) (b : Bool) → IsScalar shape → Fits shape v → Tells g a c w t (kind_in shape) f v → truth_of c.store v ≡ Ok b → (sum (kind_in shape) == 0) ≡ not b
+  pub truth_tells : (shape : Shape) (v : Value) (b : Bool) → IsScalar shape → Fits shape v → Tells g a c w t (kind_in shape) f v → truth_of c.store v ≡ Ok b → (sum (kind_in shape) == 0) ≡ not b
   truth_tells (Number kind) (Whole z) b scalar fit tells e =
       let same : residue (modulus_of kind) z ≡ sum kind = number_residue kind z f tells.0 in
       ap (λ n. n == 0) (sym same) ∙ number_truth kind c.store z b fit e

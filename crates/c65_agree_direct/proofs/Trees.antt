@@ -101,7 +101,7 @@ whole_member (Some m) kind x s e = go m.bits refl
     go None f = (whole_kind x kind (sym e ∙ ap (field_or kind) f), ap (λ z. field_shape (type_in m.ty) z s) f ∙ no_field (type_in m.ty) s)
     go (Some z) f = let h : field_or kind (Some z) ≡ accesses.Whole x = sym (ap (field_or kind) f) ∙ e in cc
 
-scalar_shape : (us : TypesTy) (t : Ty) → is_scalar t ≡ true → IsScalar (shape_of us t)
+pub scalar_shape : (us : TypesTy) (t : Ty) → is_scalar t ≡ true → IsScalar (shape_of us t)
 scalar_shape us (types.int k) e = tt
 scalar_shape us (types.pointer q) e = tt
 scalar_shape us types.void e = cc
@@ -109,7 +109,7 @@ scalar_shape us (types.array q n) e = cc
 scalar_shape us (types.tag n) e = cc
 scalar_shape us (types.function f) e = cc
 
-kind_is : (us : TypesTy) (t : Ty) → is_scalar t ≡ true → kind_of t ≡ kind_in (shape_of us t)
+pub kind_is : (us : TypesTy) (t : Ty) → is_scalar t ≡ true → kind_of t ≡ kind_in (shape_of us t)
 kind_is us (types.int k) e = refl
 kind_is us (types.pointer q) e = refl
 kind_is us types.void e = cc
@@ -117,7 +117,7 @@ kind_is us (types.array q n) e = cc
 kind_is us (types.tag n) e = cc
 kind_is us (types.function f) e = cc
 
-bare_plain : (t : QTy) → type_in (plain_of t) ≡ type_in t
+pub bare_plain : (t : QTy) → type_in (plain_of t) ≡ type_in t
 bare_plain (qual t c v) = refl
 
 -- the shape of what is loaded is that of its type
@@ -152,7 +152,7 @@ whole_shape us (node t rest) x plain place h = cc
 -- ---- addresses
 
 -- of a function, or of a place that is told without a sum
-data Addressed (f : Framed) (pushed : ℕ) (e : Typed) (d : Direct) : Type 0 where
+pub data Addressed (f : Framed) (pushed : ℕ) (e : Typed) (d : Direct) : Type 0 where
   of_function : (t : QTy) (i : ℕ) → e ≡ node t (func i) → directs.Address (function_symbol (numbers_of f.parts) i) 0 ≡ d → Addressed f pushed e d
   of_place : is_plain e ≡ true → address_at (place_of f pushed e) ≡ Some d → Addressed f pushed e d
 
@@ -164,7 +164,7 @@ module _ (f : Framed) (pushed : ℕ) (d : Direct) where
       go true p h = of_place p h
       go false p h = cc
 
-  addressed : (e : Typed) → address_of f pushed e ≡ Some d → Addressed f pushed e d
+  pub addressed : (e : Typed) → address_of f pushed e ≡ Some d → Addressed f pushed e d
   addressed (node t (func i)) h = of_function t i refl cc
   addressed (node t (constant z)) h = if_plain (node t (constant z)) h
   addressed (node t null) h = if_plain (node t null) h
@@ -233,7 +233,7 @@ module _ (g : World) (a : Active) (pushed : ℕ) (placed : IsPlacement g.code g.
           omega (arith, lies.1)
 
       func_told : IsAddress g a c w t (function_symbol (numbers_of g.parts) i) 0 (values.Place i 0)
-      func_told = (at_symbol, r.joins.symbols.funcs i lt, refl, func_small)
+      func_told = (at_symbol, r.joins.symbols.funcs i lt, refl, func_small, λ h. omega (arith, h))
 
     func_read : (size : ℕ) → IsRead g a pushed (Pointer size) (λ k. Push (values.Place i 0) ∷ Keep ∷ k) (directs.Address (function_symbol (numbers_of g.parts) i) 0)
     func_read size needs n weight k vs c w b p t seen r turns later =
@@ -249,7 +249,7 @@ module _ (g : World) (a : Active) (pushed : ℕ) (placed : IsPlacement g.code g.
         omega (arith, same)
 
     symbol_told : IsAddress g a c w t s at (values.Place m o)
-    symbol_told = (lies.symbol.0, lies.symbol.1, lies.symbol.2, symbol_small)
+    symbol_told = (lies.symbol.0, lies.symbol.1, lies.symbol.2, symbol_small, lies.symbol.3)
 
   data_read : (work : List Item → List Item) (s : Sym) (at : ℕ) (d : Direct) (size : ℕ) → directs.Address s at ≡ d → PlaceIsRead g a pushed work (Data s at) → IsRead g a pushed (Pointer size) (λ k. work (Keep ∷ k)) d
   data_read work s at d size same whole needs n weight k vs c w b p t seen r turns later =

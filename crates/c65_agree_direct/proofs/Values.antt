@@ -26,7 +26,10 @@ use Rattle.c65_code.specs.Numbers.{words_of}
 use Rattle.c65_code.specs.Placement.{located}
 use Rattle.c65_genwide.specs.Wide.{width_of}
 use Rattle.c65_genload.specs.declared.places.Place.{Place}
+use Rattle.c65_genload.specs.declared.places.Place.TheVariants.{Bank, Near, Data, Far}
 use Rattle.c65_genload.specs.Conversions.{size_of}
+use Rattle.c65_genload.specs.Places.{byte_more, word_more}
+use Rattle.c65_genload.specs.Words.{regbank}
 use Rattle.c65_gendirect.specs.declared.bytes.OperandByte.{OperandByte}
 use Rattle.c65_gendirect.specs.declared.bytes.OperandByte.TheVariants as operands
 use Rattle.c65_gendirect.specs.declared.direct.Direct.{Direct}
@@ -35,13 +38,13 @@ use Rattle.c65_gendirect.specs.Bytes.{number_byte, address_byte, place_byte, byt
 use Rattle.c65_genexpr.specs.Types.{kind_of}
 use Rattle.c65_genexpr.specs.Operands.{residue_of}
 use Rattle.c65_genexpr.specs.Direct.{takes_bytes}
-use Rattle.c65_agree_store.specs.Stands.{Spot, At, Banked, Placing, ValueIs}
+use Rattle.c65_agree_store.specs.Stands.{Spot, At, Banked, Placing, ValueIs, stored_at}
 use Rattle.c65_agree_store.specs.Laws.{number_in, byte_of}
 use Rattle.c65_agree_state.specs.World.{World, Active}
 use Rattle.c65_agree_state.specs.Exprs.{width_in}
-use Rattle.c65_agree_places.specs.Places.{spot_in, stored_at}
+use Rattle.c65_agree_places.specs.Places.{spot_in}
 use Rattle.c65_agree_numbers.proofs.Residues.{word_below}
-use Rattle.c65_agree_direct.specs.Operands.{byte_in, MayRead, register_bytes, HasBytes}
+use Rattle.c65_agree_direct.specs.Operands.{byte_in, MayRead, register_bytes, IsLocated, HasBytes}
 use Rattle.c65_agree_direct.proofs.Bytes.{fits_register, below_words, byte_is, byte_of_none, byte_first, byte_behind, number_below, wrapped_byte, wrapped_number, unsigned_stays, constant_byte, byte_below, none_byte}
 
 none_wraps : (to : IntType) → wrap_of to (pos 0) ≡ pos 0
@@ -82,6 +85,16 @@ taken_scalar (types.function f) (types.array r m) e = cc
 taken_scalar (types.function f) (types.tag m) e = cc
 taken_scalar (types.function f) (types.function h) e = cc
 
+-- regbank has six bytes
+abbrev pub IsInRegbank : Place → Type 0
+IsInRegbank (Bank at) = at < 6
+IsInRegbank place = Unit {0}
+
+-- above the scratch bytes of the zero page
+abbrev pub IsAboveScratch : OperandByte → Type 0
+IsAboveScratch (operands.Zero at) = 20 ≤ at
+IsAboveScratch x = Unit {0}
+
 module _ (g : World) (a : Active) (c : Scene) (w : Placing) (t : State) where
   -- the machine's bytes at a place
   abbrev pub bytes_at : Place → ℕ → ℕ
@@ -98,6 +111,7 @@ module _ (g : World) (a : Active) (c : Scene) (w : Placing) (t : State) where
   pub record IsKept (width : Width) (place : Place) (kind : IntType) (v : Value) : Type 0 where
     pub fits : size_of kind ≤ register_bytes width
     pub bytes : (i : ℕ) (x : OperandByte) → i < size_of kind → place_byte place i ≡ Some x → MayRead g t x × (byte_in g t x ≡ bytes_at place i)
+    pub bank : IsInRegbank place
     pub value : Tells kind (bytes_at place) v
 
   abbrev pub IsConstant : ℕ → Value → Type 0
@@ -106,7 +120,7 @@ module _ (g : World) (a : Active) (c : Scene) (w : Placing) (t : State) where
   IsConstant n v = ⊥
 
   abbrev pub IsAddress : Sym → ℕ → Value → Type 0
-  IsAddress s at (values.Place b o) = (x : ℕ) × (w b ≡ Some (At x)) × ((x + o) % 65536 ≡ located g.place s at) × (is_live c.store b ≡ true → x + o < 65536)
+  IsAddress s at (values.Place b o) = (x : ℕ) × (w b ≡ Some (At x)) × ((x + o) % 65536 ≡ located g.place s at) × (is_live c.store b ≡ true → x + o < 65536) × (g.place.address s.0 < 65536 → x + o < 65536)
   IsAddress s at Opaque = Unit {0}
   IsAddress s at v = ⊥
 
@@ -230,6 +244,57 @@ module _ (g : World) (a : Active) (c : Scene) (w : Placing) (t : State) where
     has_bytes width (Address s at) v h = has_address width s at v h
     has_bytes width (Kept place kind) v h = has_kept width place kind v h
 
+    -- the word of a pointer has 16 bits, also where its block has ended
+    pub pointer_bytes : (size : ℕ) (d : Direct) (v : Value) → Fits (values.Pointer size) v → IsLocated g d → IsToldBy Ax d v → (h : HasBytes g c.store w t Ax d v) × (h.word < 65536)
+    unfolding has_constant has_address has_kept as_number
+    pointer_bytes size (Number n) Null fit low h = let small : 0 < 65536 = omega arith in (has_constant Ax n Null h, small)
+    pointer_bytes size (Number n) (values.Place b o) fit low h = absurd h
+    pointer_bytes size (Number n) Opaque fit low h = absurd h
+    pointer_bytes size (Address s at) Null fit low h = absurd h
+    pointer_bytes size (Address s at) (values.Place b o) fit low h = (has_address Ax s at (values.Place b o) h, h.4 low)
+    pointer_bytes size (Address s at) Opaque fit low h = let small : located g.place s at < 65536 = omega arith in (has_address Ax s at Opaque h, small)
+    pointer_bytes size (Kept place kind) v fit low h = kept_pointer place kind v fit h
+      where
+        below_all_words : (place : Place) (kind : IntType) (v : Value) → IsKept Ax place kind v → number Ax place kind < 65536
+        below_all_words place kind v h = omega (arith, number_below kind (bytes_at place) (below Ax place kind), below_words kind Ax h.fits)
+
+        kept_pointer : (place : Place) (kind : IntType) (v : Value) → Fits (values.Pointer size) v → IsKept Ax place kind v → (h : HasBytes g c.store w t Ax (Kept place kind) v) × (h.word < 65536)
+        kept_pointer place kind Null fit h = (has_kept Ax place kind Null h, below_all_words place kind Null h)
+        kept_pointer place kind (values.Place b o) fit h = (has_kept Ax place kind (values.Place b o) h, below_all_words place kind (values.Place b o) h)
+        kept_pointer place kind Opaque fit h = (has_kept Ax place kind Opaque h, below_all_words place kind Opaque h)
+        kept_pointer place kind (Whole z) fit h = absurd fit
+        kept_pointer place kind (Cells xs) fit h = absurd fit
+        kept_pointer place kind NoValue fit h = absurd fit
+    pointer_bytes size d (Whole z) fit low h = absurd fit
+    pointer_bytes size d (Cells xs) fit low h = absurd fit
+    pointer_bytes size d NoValue fit low h = absurd fit
+
+  -- ---- where its bytes lie
+
+  place_above : (place : Place) (i : ℕ) (x : OperandByte) → i < 4 → IsInRegbank place → place_byte place i ≡ Some x → IsAboveScratch x
+  place_above (Bank at) i x few bank e = let same : operands.Zero (byte_more (byte_more regbank at) i) ≡ x = cc in subst IsAboveScratch same (omega (arith, few, bank))
+  place_above (Near at) i x few bank e = let same : operands.Near (byte_more at i) ≡ x = cc in subst IsAboveScratch same tt
+  place_above (Data s at) i x few bank e = let same : operands.Data s (word_more at i) ≡ x = cc in subst IsAboveScratch same tt
+  place_above (Far at) i x few bank e = absurd cc
+
+  kept_above : (width : Width) (place : Place) (kind : IntType) (v : Value) (i : ℕ) (x : OperandByte) → i < 4 → IsKept width place kind v → operand_of (Kept place kind) i ≡ Some x → IsAboveScratch x
+  kept_above width place kind v i x few h e = go (nat_lt i (size_of kind)) (is_signed_of kind) e
+    where
+      go : (inside sign : Bool) → (if inside then place_byte place i else (if sign then None else Some (operands.Number 0))) ≡ Some x → IsAboveScratch x
+      go true sign e = place_above place i x few h.bank e
+      go false true e = absurd cc
+      go false false e = let same : operands.Number 0 ≡ x = cc in subst IsAboveScratch same tt
+
+  pub bytes_are_above : (width : Width) (d : Direct) (v : Value) (i : ℕ) (x : OperandByte) → i < 4 → IsToldBy width d v → operand_of d i ≡ Some x → IsAboveScratch x
+  bytes_are_above width (Number n) v i x few h e = let same : operands.Number (number_byte n i) ≡ x = cc in subst IsAboveScratch same tt
+  bytes_are_above width (Address s at) v i x few h e = go (i == 0) (i == 1) e
+    where
+      go : (low high : Bool) → (if low then Some (operands.Low s at) else (if high then Some (operands.High s at) else None)) ≡ Some x → IsAboveScratch x
+      go true high e = let same : operands.Low s at ≡ x = cc in subst IsAboveScratch same tt
+      go false true e = let same : operands.High s at ≡ x = cc in subst IsAboveScratch same tt
+      go false false e = absurd cc
+  bytes_are_above width (Kept place kind) v i x few h e = kept_above width place kind v i x few h e
+
   -- ---- conversions
 
   converted_address : (s : Sym) (at : ℕ) (to : Ty) (us : TypesTy) (v v2 : Value) → IsAddress s at v → meaning.converted (shape_of us to) v ≡ Ok v2 → is_scalar to ≡ true → IsAddress s at v2
@@ -252,10 +317,10 @@ module _ (g : World) (a : Active) (c : Scene) (w : Placing) (t : State) where
     f = bytes_at place
 
     shorter : (v v2 : Value) → IsKept width place from v → size_of to ≤ size_of from → Tells to f v2 → IsKept (width_of to) place to v2
-    shorter v v2 h le tells = record { fits = fits_register to; bytes = λ i x lt e. h.bytes i x (omega (arith, lt, le)) e; value = tells }
+    shorter v v2 h le tells = record { fits = fits_register to; bytes = λ i x lt e. h.bytes i x (omega (arith, lt, le)) e; bank = h.bank; value = tells }
 
     longer : (v v2 : Value) → IsKept width place from v → size_of from < size_of to → Tells from f v2 → IsKept (width_of to) place from v2
-    longer v v2 h lt tells = record { fits = omega (arith, lt, fits_register to); bytes = h.bytes; value = tells }
+    longer v v2 h lt tells = record { fits = omega (arith, lt, fits_register to); bytes = h.bytes; bank = h.bank; value = tells }
 
     -- a null pointer is 0
     none_at : number_in f 2 0 ≡ 0 → (i : ℕ) → i < 2 → byte_at i (pos 0) ≡ f i
@@ -318,8 +383,8 @@ module _ (g : World) (a : Active) (c : Scene) (w : Placing) (t : State) where
       go true f Opaque is fit e =
           let le : 2 ≤ size_of from = grind (arith, nat_tests) in
           let same : Opaque ≡ v2 = cc in
-          subst (λ z. IsKept Ax place I.UInt z) same (record { fits = omega arith; bytes = λ i x lt e. h.bytes i x (omega (arith, lt, le)) e; value = tt })
-      go false f Opaque is fit e = let same : Opaque ≡ v2 = cc in subst (λ z. IsKept Ax place from z) same (record { fits = h.fits; bytes = h.bytes; value = tt })
+          subst (λ z. IsKept Ax place I.UInt z) same (record { fits = omega arith; bytes = λ i x lt e. h.bytes i x (omega (arith, lt, le)) e; bank = h.bank; value = tt })
+      go false f Opaque is fit e = let same : Opaque ≡ v2 = cc in subst (λ z. IsKept Ax place from z) same (record { fits = h.fits; bytes = h.bytes; bank = h.bank; value = tt })
       go less f (Whole z) is fit e = absurd fit
       go less f (Cells xs) is fit e = absurd fit
       go less f NoValue is fit e = absurd fit

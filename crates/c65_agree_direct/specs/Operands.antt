@@ -13,6 +13,7 @@ use Rattle.c65_code.specs.Numbers.{words_of}
 use Rattle.c65_gendirect.specs.declared.bytes.OperandByte.{OperandByte}
 use Rattle.c65_gendirect.specs.declared.bytes.OperandByte.TheVariants.{Number, Low, High, Near, Data, Zero}
 use Rattle.c65_gendirect.specs.declared.direct.Direct.{Direct}
+use Rattle.c65_gendirect.specs.declared.direct.Direct.TheVariants.{Address}
 use Rattle.c65_gendirect.specs.Bytes.{byte_of as operand_of}
 use Rattle.c65_agree_store.specs.Stands.{Placing, ValueIs}
 use Rattle.c65_agree_store.specs.Laws.{byte_of}
@@ -34,6 +35,11 @@ MayRead g t (Near at) = (at < 256) × IsOpen g.place (sp_of t) (sp_of t + at)
 MayRead g t (Data sym at) = IsOpen g.place (sp_of t) (located g.place sym at)
 MayRead g t (Zero at) = at < 256
 MayRead g t _ = Unit {0}
+
+-- the symbol whose address is read has one of 16 bits
+abbrev pub IsLocated : World → Direct → Type 0
+IsLocated g (Address sym at) = g.place.address sym.0 < 65536
+IsLocated g d = Unit {0}
 
 -- ---- the bytes of a value
 

@@ -1,38 +1,40 @@
 -- The first statement of a called function may begin.
 use Rattle.std.proofs.Common.{◌≡◌, ◌≢◌, ℕ, suc, ◌+◌, ◌<◌, ◌≤◌, ◌⊎◌, inl, inr, List, [], ◌∷◌, ◌++◌, Option, Some, None, Bool, true, false, refl, sym, ap, ◌∙◌, subst, arith}
-use Rattle.std.specs.Prelude.{◌==◌, IsTrue, if◌then◌else◌, length, slice_get, Ok}
-use Rattle.std.proofs.lemmas.Bool.{cases_eq, cases_lt}
+use Rattle.std.specs.Prelude.{◌==◌, IsTrue, if◌then◌else◌, length, slice_get, Ok, All}
+use Rattle.std.proofs.lemmas.Bool.{cases_lt}
 use Rattle.std.proofs.lemmas.Bool.Decides.{nat_tests}
-use Rattle.c65_csem.specs.Trees.{FuncTy, UnitTy}
+use Rattle.c65_csem.specs.Trees.{UnitTy}
 use Rattle.c65_csem.specs.Places.{is_fixed_object}
 use Rattle.c65_meaning.specs.Store.{Block, Value, lives_in, is_live}
 use Rattle.c65_meaning.specs.Shapes.{object_in, object_size}
 use Rattle.c65_meaning.specs.After.{is_among}
 use Rattle.c65_meaning.specs.State.{Scene, Frame as Call, block_in, rest_in, soft_sum, hard_sum}
 use Rattle.c65_meaning.specs.Step.{func_in, frames_below, is_active, with_params, new_frame}
-use Rattle.c65_code.specs.LineState.{State, sp_of, s_of}
-use Rattle.c65_code.specs.Placement.{IsPlacement, stack_start, stack_end}
+use Rattle.c65_code.specs.LineState.{State, s_of}
+use Rattle.c65_code.specs.Placement.{IsPlacement, stack_start}
 use Rattle.c65_genframe.specs.declared.home.Home.{Home}
 use Rattle.c65_genframe.specs.declared.home.Home.TheVariants as homes
 use Rattle.c65_genframe.specs.Frames.{home_of, saved_bytes}
 use Rattle.c65_genframe.specs.Objects.{locals_of}
-use Rattle.c65_agree_store.specs.Stands.{Spot, At, Banked, Placing, Banks, Grows, byte_in, beyond, IsAt, LiesIn, AreApart, IsFree, Stands}
+use Rattle.c65_agree_store.specs.Stands.{Spot, At, Banked, Placing, Banks, Grows, byte_in, beyond, IsAt, AreApart, IsFree, Stands}
 use Rattle.c65_agree_store.proofs.Keep.{free_bytes_change}
 use Rattle.c65_agree_state.specs.World.{World, unit_in, Active}
 use Rattle.c65_agree_state.specs.Fixed.{symbol_at, HasFor, is_object_of, HaveOwnObjects, func_has_fixed, AreOnce, HaveFixed}
-use Rattle.c65_agree_state.specs.Joins.{home_spot, spot_of, call_bytes, IsOfCall, HasBlock, HasBank, IsRest, HaveSymbols, Joins}
+use Rattle.c65_agree_state.specs.Sizes.{AreSized}
+use Rattle.c65_agree_state.specs.Joins.{home_spot, spot_of, call_bytes, IsOfCall, HasBlock, HaveSymbols, Joins}
 use Rattle.c65_agree_state.specs.Exprs.{bounds_of}
-use Rattle.c65_agree_state.specs.Stmts.{AreOpen, AreSized, Between}
+use Rattle.c65_agree_between.specs.Stmts.{AreOpen}
 use Rattle.c65_agree_state.proofs.Scratch.{constants_are_low}
+use Rattle.c65_agree_state.proofs.Parts.{sizes_stay}
 use Rattle.c65_agree_enter.specs.Params.{bytes_of, ArePassed, HavePlaces, HasBegun, HaveBegun}
-use Rattle.c65_agree_enter.specs.Entries.{MayEnter, FixedAreLow, HaveHomes, IsTaken, banks_with, HasEntered}
+use Rattle.c65_agree_enter.specs.Entries.{MayEnter, FixedAreLow, IsTaken, banks_with, HasEntered}
 use Rattle.c65_agree_enter.specs.Laws.{ParametersStand, CallersMayEnter, IsCalled, CallsAreEntered}
 use Rattle.c65_agree_enter.proofs.Params.{parameters_begin}
 
 -- ---- homes
 
 -- what of regbank a home of the active call is, is its own
-own_bank : (g : World) (a : Active) (i d b : ℕ) → spot_of g a i ≡ Banked d b → d ≡ length a.behind
+pub own_bank : (g : World) (a : Active) (i d b : ℕ) → spot_of g a i ≡ Banked d b → d ≡ length a.behind
 own_bank g a i d b e = go (home_of a.frame i) e
   where
     go : (h : Option Home) → home_spot g a i h ≡ Banked d b → d ≡ length a.behind
@@ -66,6 +68,7 @@ callers_may_enter g outer c w k t j = record {
   shallow = is_shallow g outer c w k t j;
   symbols = j.symbols;
   fixed = j.fixed;
+  sizes = j.sizes;
   fresh = j.fresh;
   above = j.above;
   reached = j.reached;
@@ -73,13 +76,14 @@ callers_may_enter g outer c w k t j = record {
   sealed = j.sealed;
   asked = j.asked;
   input = j.input;
+  read = j.read;
   output = j.output;
   ended = j.ended;
 }
 
 -- ---- the called function
 
-among_front : (is js : List ℕ) (i : ℕ) → is_among is i ≡ true → is_among (is ++ js) i ≡ true
+pub among_front : (is js : List ℕ) (i : ℕ) → is_among is i ≡ true → is_among (is ++ js) i ≡ true
 among_front [] js i e = cc
 among_front (j ∷ is) js i e = go (λ f. among_front is js i f) (j == i) e
   where
@@ -320,12 +324,21 @@ module _ (g : World) (a : Active) (bound cost needs : ℕ) (is : List ℕ) (args
   hard_is : hard_sum c1.frames ≡ 2 + hard_sum c0.frames
   hard_is = ap hard_sum h.frames
 
+  sized_params : AreSized u c1
+  sized_params i b x e is =
+      let has = (object_named i b e).1 in
+      let both : Some x ≡ Some has.block = sym is ∙ has.is in
+      let same : x ≡ has.block = cc in
+      ap (λ y. y.size) same ∙ has.size
+
   joined : Joins g a c1 w1 k1 t1
   joined = record {
     stands = stand.stands;
     bank = λ i lt. own_byte i;
     symbols = symbols;
     fixed = fixed;
+    sizes = sizes_stay u c0.store c1.store c0.next c1.next h.next (λ b lt. ap bounds_of (h.old b lt).0) may.sizes;
+    sized = sized_params;
     fresh = h.fresh;
     homes = λ i b e. homed i b e;
     rests = λ b e. absurd (no_rest b e);
@@ -348,6 +361,7 @@ module _ (g : World) (a : Active) (bound cost needs : ℕ) (is : List ℕ) (args
     count_free = λ v. absurd (plain v);
     frames = taken.frames;
     input = taken.input ∙ (may.input ∙ sym h.input);
+    read = subst (All (λ v. v < 256)) (sym h.input) may.read;
     output = taken.output ∙ (may.output ∙ sym h.out);
     ended = taken.ended ∙ may.ended;
     bytes = taken.bytes;
@@ -364,13 +378,6 @@ module _ (g : World) (a : Active) (bound cost needs : ℕ) (is : List ℕ) (args
 
   open_params : AreOpen is c1
   open_params i b x e is live = (object_named i b e).0
-
-  sized_params : AreSized u c1
-  sized_params i b x e is =
-      let has = (object_named i b e).1 in
-      let both : Some x ≡ Some has.block = sym is ∙ has.is in
-      let same : x ≡ has.block = cc in
-      ap (λ y. y.size) same ∙ has.size
 
   entered : HasEntered g a needs is c0 w0 k0 t0 c1 t1
   entered = record {

@@ -1,18 +1,18 @@
 -- Parameters begin one behind another.
-use Rattle.std.proofs.Common.{◌≡◌, ◌≢◌, ℕ, suc, ◌+◌, ◌<◌, ◌≤◌, ◌⊎◌, inl, inr, List, [], ◌∷◌, Option, Some, None, Bool, true, false, refl, sym, ap, ◌∙◌, subst, arith}
+use Rattle.std.proofs.Common.{◌≡◌, ◌≢◌, ℕ, ◌+◌, ◌<◌, ◌≤◌, ◌⊎◌, inl, inr, List, [], ◌∷◌, Some, None, Bool, true, false, refl, sym, ap, ◌∙◌, subst, arith}
 use Rattle.std.specs.Prelude.{◌==◌, if◌then◌else◌, Result, Ok, Err}
 use Rattle.std.proofs.lemmas.Bool.{cases_eq, cases_lt, eqb-true, eq-eqb}
 use Rattle.std.proofs.lemmas.Bool.Decides.{nat_tests}
 use Rattle.c65_csem.specs.Trees.{UnitTy}
 use Rattle.c65_meaning.specs.Why.{Why, ◌>>=◌}
-use Rattle.c65_meaning.specs.Store.{Cell, Block, Store, Value, Whole, Null, Place, Opaque, Cells, NoValue, Shape, unset, size_in, new_cells, set_block, unset_block, write}
+use Rattle.c65_meaning.specs.Store.{Block, Store, Value, Whole, Null, Place, Opaque, Cells, NoValue, Shape, size_in, new_cells, set_block, unset_block, write}
 use Rattle.c65_meaning.specs.Shapes.{object_in, object_sealed}
 use Rattle.c65_meaning.specs.After.{is_among}
 use Rattle.c65_meaning.specs.State.{Scene, Frame as Call, block_in, with_store, with_object, name_object}
 use Rattle.c65_meaning.specs.Step.{put, stored, begin_object, with_params}
 use Rattle.c65_code.specs.LineState.{Bytes}
-use Rattle.c65_agree_store.specs.Stands.{Spot, Placing, Banks, Grows, byte_in, CellIs, IsAt, LiesIn, AreApart, Stands}
-use Rattle.c65_agree_store.specs.Laws.{with_cells, ArePut, HasRoom, put_at}
+use Rattle.c65_agree_store.specs.Stands.{Spot, Placing, Banks, Grows, byte_in, CellIs, IsAt, AreApart, Stands}
+use Rattle.c65_agree_store.specs.Laws.{with_cells, ArePut, put_at}
 use Rattle.c65_agree_store.proofs.Keep.{block_same, block_other, cell_grows, stores_go_on_standing, unset_blocks_begin}
 use Rattle.c65_agree_put.specs.Laws.{IsWrite}
 use Rattle.c65_agree_put.proofs.Values.{writes_are_puts}

@@ -1,19 +1,20 @@
 -- From a call to the first statement of the called function.
-use Rattle.std.specs.Prelude.{◌≡◌, ℕ, ◌+◌, ◌*◌, ◌<◌, ◌≤◌, ◌⊎◌, ◌==◌, true, false, IsTrue, if◌then◌else◌, List, [], Some, None, length}
+use Rattle.std.specs.Prelude.{◌≡◌, ℕ, ◌+◌, ◌<◌, ◌≤◌, ◌⊎◌, ◌==◌, true, false, IsTrue, if◌then◌else◌, List, [], Some, None, length, All}
 use Rattle.c65_csem.specs.Places.{is_fixed_object}
 use Rattle.c65_meaning.specs.Store.{Block}
 use Rattle.c65_meaning.specs.Shapes.{object_in, object_size}
 use Rattle.c65_meaning.specs.After.{is_among}
 use Rattle.c65_meaning.specs.State.{Scene}
 use Rattle.c65_code.specs.LineState.{State, sp_of, IsBytes}
-use Rattle.c65_code.specs.Placement.{stack_start, stack_end}
+use Rattle.c65_code.specs.Placement.{stack_start}
 use Rattle.c65_genframe.specs.Frames.{saved_bytes}
-use Rattle.c65_agree_store.specs.Stands.{Spot, At, Banked, Placing, Banks, Grows, IsAt, LiesIn, AreApart, Stands, IsFree}
+use Rattle.c65_agree_store.specs.Stands.{At, Banked, Placing, Banks, Grows, IsAt, LiesIn, AreApart, Stands, IsFree}
 use Rattle.c65_agree_state.specs.World.{World, unit_in, Active}
 use Rattle.c65_agree_state.specs.Fixed.{symbol_at, HaveFixed}
+use Rattle.c65_agree_state.specs.Sizes.{HaveSizes}
 use Rattle.c65_agree_state.specs.Joins.{HaveSymbols, spot_of, call_bytes}
 use Rattle.c65_agree_state.specs.Exprs.{bounds_of}
-use Rattle.c65_agree_state.specs.Stmts.{Between}
+use Rattle.c65_agree_between.specs.Stmts.{Between}
 use Rattle.c65_agree_enter.specs.Params.{bytes_of}
 
 -- ---- before
@@ -25,6 +26,7 @@ pub record MayEnter (g : World) (depth bound : ℕ) (c : Scene) (w : Placing) (k
   pub shallow : (b : ℕ) (x : Block) (d i : ℕ) → IsAt c.store w b x (Banked d i) → 0 < x.size → d < depth
   pub symbols : HaveSymbols g w
   pub fixed : HaveFixed g c w
+  pub sizes : HaveSizes (unit_in g) c.store c.next
   pub fresh : (b : ℕ) → c.next ≤ b → w b ≡ None
   pub above : (n : ℕ) → stack_start ≤ n → n < bound → IsFree c.store w (At n)
   pub reached : (b : ℕ) (x : Block) (at o : ℕ) → IsAt c.store w b x (At at) → o < x.holds → IsTrue (g.place.is_data (at + o)) ⊎ (bound ≤ at + o)
@@ -32,6 +34,7 @@ pub record MayEnter (g : World) (depth bound : ℕ) (c : Scene) (w : Placing) (k
   pub sealed : (b : ℕ) (x : Block) (at o v : ℕ) → IsAt c.store w b x (At at) → o < x.holds → g.place.constant (at + o) ≡ Some v → x.sealed ≡ true
   pub asked : c.free ≡ false
   pub input : t.input ≡ c.input
+  pub read : All (λ v. v < 256) c.input
   pub output : t.output ≡ c.out
   pub ended : t.ended ≡ None
 

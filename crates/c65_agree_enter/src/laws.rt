@@ -1,5 +1,5 @@
 // Laws of entries, each the contract of a function that does nothing.
-ghost use Rattle.c65_agree_enter.specs.Laws.{CallersMayEnter, CallsAreEntered, EntriesEnter, EntriesKeep, ParametersBegin};
+ghost use Rattle.c65_agree_enter.specs.Laws.{ArgumentsLieAtHomes, CallersMayEnter, CallsAreEntered, EntriesEnter, EntriesKeep, ParametersBegin};
 
 /// The store stands where parameters have begun.
 pub fn parameters_begin()
@@ -14,6 +14,11 @@ pub fn callers_may_enter()
 /// Where the machine has taken the frame, the first statement may begin.
 pub fn calls_are_entered()
     ensures { CallsAreEntered }
+{}
+
+/// Arguments that lie at the homes of parameters are passed so.
+pub fn arguments_lie_at_homes()
+    ensures { ArgumentsLieAtHomes }
 {}
 
 /// The lines of an entry take the frame.

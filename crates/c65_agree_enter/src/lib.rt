@@ -4,5 +4,6 @@
 mod laws;
 
 pub use laws::{
-    callers_may_enter, calls_are_entered, entries_enter, entries_keep, parameters_begin,
+    arguments_lie_at_homes, callers_may_enter, calls_are_entered, entries_enter, entries_keep,
+    parameters_begin,
 };

@@ -21,8 +21,7 @@ use Rattle.c65_genentry.specs.Entry.{bank_saves, few_saved, saved_code}
 use Rattle.c65_genentry.specs.Ends.{bank_loads, few_loads, few_restored, restored_code}
 use Rattle.c65_agree_state.specs.World.{World, Active}
 use Rattle.c65_agree_state.specs.Laws.{OnlyScratch}
-use Rattle.c65_agree_rows.proofs.Quiet.{append_nothing, write_other, write_same, listed_are_at, listed_below, in_range, quiet_row, quiet_rows_scratch}
-use Rattle.c65_agree_put.proofs.Stores.{item_is}
+use Rattle.c65_agree_rows.proofs.Quiet.{append_nothing, write_other, write_same, listed_are_at, listed_below, in_range, quiet_row, quiet_rows_scratch, item_is}
 use Rattle.c65_agree_frame.specs.Leads.{Leads, IsOn, Stays, SameBank, IsHigher, IsLower, IsSaved, IsBrought}
 use Rattle.c65_agree_frame.specs.Laws.{BanksAreSaved, BanksAreBrought, move_cost}
 use Rattle.c65_agree_frame.proofs.Leads.{none_leads, leads_then, leads_as, stays_on, kept_regs, kept_zero, kept_memory, after_lines, AreSafe, lines_lead, routine_leads}

@@ -120,11 +120,11 @@ module _ (g : World) (a : Active) (frame : Frame) (frames : List Frame) where
 -- ---- up to the return
 
 -- sp is so much higher, the bytes that were put away are in regbank, and the primary register stays
-record IsUndone (soft saved more : ℕ) (t u : State) : Type 0 where
-  sp : sp_of u ≡ sp_of t + (soft + (saved + more))
-  brought : (i : ℕ) → i < saved → u.zp (20 + i) ≡ t.mem (sp_of t + soft + i)
-  others : (i : ℕ) → saved ≤ i → i < 6 → u.zp (20 + i) ≡ t.zp (20 + i)
-  stays : Stays (sp_of t + (soft + (saved + more))) t u
+pub record IsUndone (soft saved more : ℕ) (t u : State) : Type 0 where
+  pub sp : sp_of u ≡ sp_of t + (soft + (saved + more))
+  pub brought : (i : ℕ) → i < saved → u.zp (20 + i) ≡ t.mem (sp_of t + soft + i)
+  pub others : (i : ℕ) → saved ≤ i → i < 6 → u.zp (20 + i) ≡ t.zp (20 + i)
+  pub stays : Stays (sp_of t + (soft + (saved + more))) t u
 
 undone_by : (soft saved : ℕ) (t u v : State) → saved ≤ 6 → IsHigher soft t u → IsBrought saved u v → IsUndone soft saved 0 t v
 undone_by soft saved t u v few h b =
@@ -136,7 +136,7 @@ undone_by soft saved t u v few h b =
       stays = subst (λ k. Stays k t v) sp (stays_then (sp_of t + soft) (sp_of u + saved) t u v (omega (arith, h.sp)) h.stays b.stays);
     }
 
-undone_then : (soft saved more : ℕ) (t u v : State) → saved ≤ 6 → IsUndone soft saved 0 t u → IsHigher more u v → IsUndone soft saved more t v
+pub undone_then : (soft saved more : ℕ) (t u v : State) → saved ≤ 6 → IsUndone soft saved 0 t u → IsHigher more u v → IsUndone soft saved more t v
 undone_then soft saved more t u v few f h =
     let sp : sp_of u + more ≡ sp_of t + (soft + (saved + more)) = omega (arith, f.sp) in
     record {
@@ -147,13 +147,13 @@ undone_then soft saved more t u v few f h =
     }
 
 module _ (g : World) (a : Active) (placed : IsPlacement g.code g.place) where
-  undone_lead : (soft bank : ℕ) (t : State) → IsOn g t → sp_of t + (soft + saved_bytes bank) ≤ stack_end → Leads g a (raise_code soft ++ restored_code bank) (move_cost soft + 256) t (IsUndone soft (saved_bytes bank) 0 t)
+  pub undone_lead : (soft bank : ℕ) (t : State) → IsOn g t → sp_of t + (soft + saved_bytes bank) ≤ stack_end → Leads g a (raise_code soft ++ restored_code bank) (move_cost soft + 256) t (IsUndone soft (saved_bytes bank) 0 t)
   undone_lead soft bank t on high =
       leads_then g a (raise_code soft) (restored_code bank) (move_cost soft) 256 t (IsHigher soft t) (IsUndone soft (saved_bytes bank) 0 t) (stacks_are_raised g a soft t placed on (omega (arith, high))) (λ u h.
       leads_as g a (restored_code bank) 256 256 u (IsBrought (saved_bytes bank) u) (IsUndone soft (saved_bytes bank) 0 t) (omega arith) (λ v b. undone_by soft (saved_bytes bank) t u v (saved_few bank) h b)
       (banks_are_brought g a bank u placed (on_behind g (sp_of t + soft) t u placed on h.stays (omega (arith, h.sp, on.stacks.soft)) (omega (arith, h.sp, high))) (omega (arith, h.sp, high))))
 
-  undone_on : (soft saved more : ℕ) (t u : State) → IsOn g t → sp_of t + (soft + (saved + more)) ≤ stack_end → IsUndone soft saved more t u → IsOn g u
+  pub undone_on : (soft saved more : ℕ) (t u : State) → IsOn g t → sp_of t + (soft + (saved + more)) ≤ stack_end → IsUndone soft saved more t u → IsOn g u
   undone_on soft saved more t u on high h = on_behind g (sp_of t + (soft + (saved + more))) t u placed on h.stays (omega (arith, h.sp, on.stacks.soft)) (omega (arith, h.sp, high))
 
 -- each part of the primary register

@@ -26,9 +26,9 @@ use Rattle.c65_agree_store.specs.Stands.{Placing, Banks}
 use Rattle.c65_agree_state.specs.World.{World, program_in, unit_in, setting_in, Active, lines_of, place_in, HasAt, IsPlaced, HasTurns}
 use Rattle.c65_agree_state.specs.Follows.{Follows}
 use Rattle.c65_agree_state.specs.Exprs.{Ready, Kept, Valued, MayFit, ResultIs, width_in}
-use Rattle.c65_agree_state.specs.Stmts.{Between, Keeping, GoesOn}
+use Rattle.c65_agree_between.specs.Stmts.{Between, Keeping, GoesOn}
 use Rattle.c65_agree_state.proofs.Followed.{follows_weaken, steps_earn, arrivals_count, ready_is_calm}
-use Rattle.c65_agree_state.proofs.Parts.{between_is_ready, between_stays, keeping_goes_on}
+use Rattle.c65_agree_between.proofs.Between.{between_is_ready, between_stays, keeping_goes_on}
 use Rattle.c65_agree_state.proofs.Leaves.{scratch_is_kept, with_regs, run}
 use Rattle.c65_agree_state.proofs.Yields.{nothing_may_fit}
 use Rattle.c65_agree_stmts.specs.Calling.{Calling}

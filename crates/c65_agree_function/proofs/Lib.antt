@@ -1,3 +1,4 @@
 mod Ends
 pub mod Body
 mod Mains
+pub mod Given

@@ -40,8 +40,9 @@ use Rattle.c65_agree_start.proofs.Given.{is_code}
 use Rattle.c65_agree_leave.specs.Laws.{params_in}
 use Rattle.c65_agree_enter.specs.Params.{shape_in, no_cells, ArePassed}
 use Rattle.c65_agree_enter.specs.Entries.{banks_with}
-use Rattle.c65_agree_enter.specs.Laws.{with_arriving}
-use Rattle.c65_agree_call.specs.Calls.{HasPassed}
+use Rattle.c65_agree_enter.specs.Laws.{with_arriving, AllPassed}
+use Rattle.c65_agree_enter.proofs.Lines.{arguments_lie_at_homes}
+use Rattle.c65_agree_call.specs.Calls.{HasCome}
 use Rattle.c65_agree_homes.specs.Slots.{all_slots, behind_slots}
 use Rattle.c65_agree_homes.specs.Frames.{IsCallIn}
 use Rattle.c65_agree_homes.proofs.Among.{among_here, among_more}
@@ -106,13 +107,18 @@ module _ (g : World) (names args : List (List ℕ)) (a : Active) (f : FuncTy) (i
   params_are = sym (ap params_of h.function)
 
   abbrev Given : List ℕ → Type 0
-  Given is = HasPassed g a (main_values (unit_in g) args is) (first_placing g args) k t
+  Given is = HasCome g a (main_values (unit_in g) args is) (first_placing g args) t
 
   abbrev Lie : List ℕ → Type 0
   Lie is = ArePassed (unit_in g) (first_placing g args) (with_arriving a t) (banks_with a t k) (spot_of g a) is (main_values (unit_in g) args is)
 
   given : (is : List ℕ) → f.params ≡ is → length (arriving a.frame.last t) ≤ a.frame.stacked → Lie is → Given is
-  given is e few lies = record { stacked = top; few = few; lies = subst (λ (ps : List ℕ). ArePassed (unit_in g) (first_placing g args) (with_arriving a t) (banks_with a t k) (spot_of g a) ps (main_values (unit_in g) args is)) (sym e ∙ params_are) lies }
+  given is e few lies =
+      let all : AllPassed g a (first_placing g args) t is (main_values (unit_in g) args is) = arguments_lie_at_homes g a (first_placing g args) k t is (main_values (unit_in g) args is) (λ n among. (low + behind_slots g.parts prototype f.params n, at_home n (ap (λ (ps : List ℕ). is_among ps n) e ∙ among))) lies in
+      record { stacked = top; few = few; lies = subst (λ (ps : List ℕ). AllPassed g a (first_placing g args) t ps (main_values (unit_in g) args is)) (sym e ∙ params_are) all }
+    where
+      at_home : (n : ℕ) → is_among f.params n ≡ true → spot_of g a n ≡ At (low + behind_slots g.parts prototype f.params n)
+      at_home = (parameters_stand_in_order g names a f h plain).0
 
   -- ---- no arguments
 
@@ -246,4 +252,4 @@ module _ (g : World) (names args : List (List ℕ)) (a : Active) (f : FuncTy) (i
   all_given (i ∷ j ∷ n ∷ is) e takes = absurd takes
 
 pub mains_arguments_lie : MainsArgumentsLie
-mains_arguments_lie g names args a f input t k h main plain takes start top = all_given g names args a f input t k h main plain start top f.params refl takes
+mains_arguments_lie g names args a f input t h main plain takes start top = all_given g names args a f input t (λ d i. 0) h main plain start top f.params refl takes

@@ -1,2 +1,3 @@
 pub mod Functions
 pub mod Laws
+pub mod Results

@@ -3,4 +3,6 @@
 
 mod laws;
 
-pub use laws::{functions_do, functions_have_ends, mains_arguments_lie};
+pub use laws::{
+    functions_do, functions_give_by_type, functions_have_ends, main_gives_a, mains_arguments_lie,
+};

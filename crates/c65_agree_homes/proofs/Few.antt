@@ -38,7 +38,6 @@ use Rattle.c65_agree_state.specs.World.{World, unit_in, setting_in}
 use Rattle.c65_agree_lines.specs.Turns.{Turn, LoopAt, GotoAt, stmt_calls, stmts_calls}
 use Rattle.c65_agree_lines.proofs.Turns.{turns_are_counted}
 use Rattle.c65_agree_homes.specs.Turns.{first_label, body_turns, turns_if, framed_turns, function_turns, heads_at, gotos_at, calls_at, symbol_of, heads_of, owns_by, owns_of, all_heads, all_owns}
-use Rattle.c65_agree_homes.specs.Frames.{AllHaveFewLabels}
 use Rattle.c65_agree_homes.specs.Laws.{TurnsAreFew}
 use Rattle.c65_agree_homes.proofs.Entries.{entry_free, end_free}
 
@@ -187,7 +186,7 @@ none_turns : (r : Result Framed Fault) → framed_turns None r ≡ []
 none_turns (Err why) = refl
 none_turns (Ok f) = refl
 
-module _ (g : World) (names : List (List ℕ)) (code : program_of g.parts g.main names g.modes ≡ Ok g.code) (unit : IsUnit (unit_in g)) (symbols : length (unit_in g).objects + length (unit_in g).literals + length (unit_in g).funcs ≤ 2 ^ 32) (labels : AllHaveFewLabels g) where
+module _ (g : World) (names : List (List ℕ)) (code : program_of g.parts g.main names g.modes ≡ Ok g.code) (unit : IsUnit (unit_in g)) (symbols : length (unit_in g).objects + length (unit_in g).literals + length (unit_in g).funcs ≤ 2 ^ 32) where
   few_symbols : length g.parts.objects.items + length g.parts.literals.items + length g.parts.funcs.items ≤ 2 ^ 32
   few_symbols = omega (arith, symbols, length_mapped object_of g.parts.objects.items, length_mapped func_of g.parts.funcs.items)
 
@@ -216,7 +215,7 @@ module _ (g : World) (names : List (List ℕ)) (code : program_of g.parts g.main
             let owns : owns_of g i f ≡ [] = ap (λ (b : Option Stmt). owns_by g i b (function_turns g.parts g.modes f)) is in
             omega (arith, ap {B = ℕ} length heads, ap {B = ℕ} length owns)
         go (Some body) is =
-            let c = programs_are_compiled program names g.code g.place i f body code unit few_symbols found is (λ z e. labels i f body z found is e) in
+            let c = programs_are_compiled program names g.code g.place i f body code unit few_symbols found is in
             by_frame body is c.0 c.1 c.2 c.3 c.4
 
   all_few : (fs : List TFunc) (i : ℕ) → ((k : ℕ) (f : TFunc) → slice_get fs k ≡ Some f → slice_get (unit_in g).funcs (i + k) ≡ Some (func_of f)) → length (all_heads g i fs) + length (all_owns g i fs) ≤ func_sites (map func_of fs)
@@ -231,9 +230,9 @@ module _ (g : World) (names : List (List ℕ)) (code : program_of g.parts g.main
       omega (arith, first, others, length-append (heads_of g i (func_of f)) (all_heads g (suc i) fs), length-append (owns_of g i (func_of f)) (all_owns g (suc i) fs))
 
 pub turns_are_few : TurnsAreFew
-turns_are_few g names code unit symbols labels c =
+turns_are_few g names code unit symbols c =
     let items : (k : ℕ) (f : TFunc) → slice_get g.parts.funcs.items k ≡ Some f → slice_get (unit_in g).funcs (0 + k) ≡ Some (func_of f) = λ k f e.
     let there : k ≡ 0 + k = omega arith in
     subst (λ (n : ℕ). slice_get (unit_in g).funcs n ≡ Some (func_of f)) there (slice_get-map func_of g.parts.funcs.items k ∙ ap (option_map func_of) e) in
-    let all = all_few g names code unit symbols labels g.parts.funcs.items 0 items in
+    let all = all_few g names code unit symbols g.parts.funcs.items 0 items in
     omega (arith, all, ap {B = ℕ} length c.heads, ap {B = ℕ} length c.owns)

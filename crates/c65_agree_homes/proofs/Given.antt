@@ -18,7 +18,7 @@ use Rattle.c65_agree_stmts.specs.Calling.{Calling, GotosAreCounted}
 use Rattle.c65_agree_stmts.proofs.Blocks.{among_left}
 use Rattle.c65_agree_enter.specs.Params.{AreDistinct}
 use Rattle.c65_agree_homes.specs.Turns.{first_label, body_turns, CountsTurns}
-use Rattle.c65_agree_homes.specs.Frames.{HasFewLabels, IsCalling}
+use Rattle.c65_agree_homes.specs.Frames.{IsCalling}
 use Rattle.c65_agree_homes.specs.Laws.{HeadsAreCounted, GotosCountTheirTurns, PartsAreGiven}
 use Rattle.c65_agree_homes.proofs.Distinct.{distinct_second}
 use Rattle.c65_agree_homes.proofs.Own.{has_body, own_distinct}
@@ -42,11 +42,11 @@ module _ (x : Calling) (names : List (List ℕ)) (f : FuncTy) (h : IsCalling x n
   label_small : (l : ℕ) → Contains (labels_of x.body) l → following l ≡ l + 1
   label_small l k = let room = label_room l k in omega (arith, room)
 
-  gotos_counted : CountsTurns x.world → HasFewLabels x.world x.active f x.body → (l : ℕ) → Contains (labels_of x.body) l → GotosAreCounted x (following l)
-  gotos_counted c few l k p at =
+  gotos_counted : CountsTurns x.world → (l : ℕ) → Contains (labels_of x.body) l → GotosAreCounted x (following l)
+  gotos_counted c l k p at =
       let small = label_small l k in
       let fits = label_fits x.body l k in
-      goto_counted x.world names x.active f h.call c x.body p h.body (gotos_count x.world names x.active f x.body h.call h.body few (following l) p (omega (arith, small)) (omega (arith, small, fits)) at)
+      goto_counted x.world names x.active f h.call c x.body p h.body (gotos_count x.world names x.active f x.body h.call h.body (following l) p (omega (arith, small)) (omega (arith, small, fits)) at)
 
   all_open : Opens f x.params (objects_in x.body)
   all_open = record {
@@ -60,14 +60,14 @@ module _ (x : Calling) (names : List (List ℕ)) (f : FuncTy) (h : IsCalling x n
       local = ap objects_of h.body
 
 pub heads_are_counted : HeadsAreCounted
-heads_are_counted x names f label q h c few k at =
-    head_counted x names f h (one_place x.world names x.active f x.body h.call h.body few) (body_turns x.active.frame x.body) (λ p e. loop_counted x.world names x.active f h.call c x.body p h.body e) (gotos_counted x names f h c few) q label at k
+heads_are_counted x names f label q h c k at =
+    head_counted x names f h (one_place x.world names x.active f x.body h.call h.body) (body_turns x.active.frame x.body) (λ p e. loop_counted x.world names x.active f h.call c x.body p h.body e) (gotos_counted x names f h c) q label at k
 
 pub gotos_count_their_turns : GotosCountTheirTurns
-gotos_count_their_turns x names f l h c few k = gotos_counted x names f h c few l k
+gotos_count_their_turns x names f l h c k = gotos_counted x names f h c l k
 
 pub parts_are_given : PartsAreGiven
-parts_are_given x names f h c few work =
-    last_parts x names f h (one_place x.world names x.active f x.body h.call h.body few) (body_turns x.active.frame x.body) (λ p e. loop_counted x.world names x.active f h.call c x.body p h.body e) (gotos_counted x names f h c few)
+parts_are_given x names f h c work =
+    last_parts x names f h (one_place x.world names x.active f x.body h.call h.body) (body_turns x.active.frame x.body) (λ p e. loop_counted x.world names x.active f h.call c x.body p h.body e) (gotos_counted x names f h c)
     x.body x.params 0 0 (first_label x.body) (length (entry_code x.active.frame)) (ways 0 0 0) (context_of f x.body)
-    (record { at = body_stands x.world names x.active f x.body h.call h.body few; turns = λ t e. e; opens = all_open x names f h; few = (plain_body x names f h).arms; labels = refl; typed = (typed_body x names f h).typed }) work
+    (record { at = body_stands x.world names x.active f x.body h.call h.body; turns = λ t e. e; opens = all_open x names f h; few = (plain_body x names f h).arms; labels = refl; typed = (typed_body x names f h).typed }) work

@@ -71,7 +71,7 @@ none_before n = omega arith
 
 -- ---- the lines
 
-module _ (g : World) (names : List (List ℕ)) (a : Active) (f : FuncTy) (body : Stmt) (h : IsCallIn g names a f) (is : f.body ≡ Some body) (few : HasFewLabels g a f body) where
+module _ (g : World) (names : List (List ℕ)) (a : Active) (f : FuncTy) (body : Stmt) (h : IsCallIn g names a f) (is : f.body ≡ Some body) where
   abbrev whole : Framed → Drafted
   whole z = with_function z (a.func == g.main) (Some body) (no_lines (gives_of g.parts f))
 
@@ -81,9 +81,6 @@ module _ (g : World) (names : List (List ℕ)) (a : Active) (f : FuncTy) (body :
       go : ◌≡◌ {A = Result Framed Fault} (Ok a.frame) (Ok z) → a.frame ≡ z
       go e = cc
 
-  few_by : (z : Framed) → frame_of g.parts g.modes f ≡ Ok z → (whole z).labels ≤ 2 ^ 32
-  few_by z e = subst (λ (y : Framed). (whole y).labels ≤ 2 ^ 32) (same_frame z e) few
-
   few_symbols : length g.parts.objects.items + length g.parts.literals.items + length g.parts.funcs.items ≤ 2 ^ 32
   few_symbols =
       let all = h.plain.few in
@@ -92,20 +89,25 @@ module _ (g : World) (names : List (List ℕ)) (a : Active) (f : FuncTy) (body :
   abbrev program : Program
   program = record { parts = g.parts; main = g.main; modes = g.modes }
 
-  whole_is : (c : Compiled) → c.index ≡ a.func → c.func ≡ f → c.body ≡ body → IsCompiled (setting_in g) program c → lines_of g a ≡ (whole a.frame).lines
-  whole_is c index func its made =
+  drafted_is : (c : Compiled) → c.index ≡ a.func → c.func ≡ f → c.body ≡ body → IsCompiled (setting_in g) program c → with_function c.frame (c.index == g.main) (Some c.body) (no_lines (gives_of g.parts c.func)) ≡ whole a.frame
+  drafted_is c index func its made =
       let framed_so : frame_of g.parts g.modes f ≡ Ok c.frame = subst (λ (z : FuncTy). frame_of g.parts g.modes z ≡ Ok c.frame) func made.framed in
-      let number : a.symbol ≡ (laid program c).number = h.call.symbol ∙ sym (ap (λ (n : ℕ). (function_symbol (numbers_of g.parts) n).0) index) in
-      ap (λ (n : ℕ). (setting_in g).lines n) number ∙ (made.lines
-      ∙ (ap (λ (n : ℕ). (with_function c.frame (n == g.main) (Some c.body) (no_lines (gives_of g.parts c.func))).lines) index
-      ∙ (ap (λ (b : Stmt). (with_function c.frame (a.func == g.main) (Some b) (no_lines (gives_of g.parts c.func))).lines) its
-      ∙ (ap (λ (z : FuncTy). (with_function c.frame (a.func == g.main) (Some body) (no_lines (gives_of g.parts z))).lines) func
-      ∙ sym (ap (λ (z : Framed). (whole z).lines) (same_frame c.frame framed_so))))))
+      ap (λ (n : ℕ). with_function c.frame (n == g.main) (Some c.body) (no_lines (gives_of g.parts c.func))) index
+      ∙ (ap (λ (b : Stmt). with_function c.frame (a.func == g.main) (Some b) (no_lines (gives_of g.parts c.func))) its
+      ∙ (ap (λ (z : FuncTy). with_function c.frame (a.func == g.main) (Some body) (no_lines (gives_of g.parts z))) func
+      ∙ sym (ap (λ (z : Framed). whole z) (same_frame c.frame framed_so))))
+
+  compiled : (c : Compiled) × (c.index ≡ a.func) × (c.func ≡ f) × (c.body ≡ body) × IsCompiled (setting_in g) program c
+  compiled = programs_are_compiled program names g.code g.place a.func f body h.code h.program.unit few_symbols h.function is
+
+  pub few : HasFewLabels g a f body
+  few = let made = compiled in subst (λ (d : Drafted). d.labels ≤ 2 ^ 32) (drafted_is made.0 made.1 made.2 made.3 made.4) made.4.few
 
   pub lines_are : lines_of g a ≡ (whole a.frame).lines
   lines_are =
-      let c = programs_are_compiled program names g.code g.place a.func f body h.code h.program.unit few_symbols h.function is few_by in
-      whole_is c.0 c.1 c.2 c.3 c.4
+      let made = compiled in
+      let number : a.symbol ≡ (laid program made.0).number = h.call.symbol ∙ sym (ap (λ (n : ℕ). (function_symbol (numbers_of g.parts) n).0) made.1) in
+      ap (λ (n : ℕ). (setting_in g).lines n) number ∙ (made.4.lines ∙ ap (λ (d : Drafted). d.lines) (drafted_is made.0 made.1 made.2 made.3 made.4))
 
   well : IsBody (unit_in g) f body
   well = subst (λ (b : Option Stmt). HasBody (unit_in g) f b) is (has_body g names a f h a.func f h.function)

@@ -22,7 +22,7 @@ use Rattle.c65_genstmt.specs.declared.jumps.Ways.{Ways}
 use Rattle.c65_genstmt.specs.Jumps.{following}
 use Rattle.c65_genstmt.specs.Stmts.{is_empty, case_behind, ways}
 use Rattle.c65_agree_state.specs.World.{unit_in, lines_of, place_in, HasAt, IsPlaced, owned_at}
-use Rattle.c65_agree_state.specs.Stmts.{arms_weight}
+use Rattle.c65_agree_between.specs.Stmts.{arms_weight}
 use Rattle.c65_agree_lines.specs.Lists.{effects_code, effects_uses, guard_code, guard_uses, head_code, head_uses, way_code, stmt_code, stmt_uses, stmts_code, last_code, lasts_code}
 use Rattle.c65_agree_lines.specs.Turns.{Turn, LoopAt, turns_of, all_turns_of}
 use Rattle.c65_agree_lines.proofs.Stand.{parts_stand}

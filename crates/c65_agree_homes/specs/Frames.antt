@@ -4,7 +4,6 @@ use Rattle.c65_csem.specs.Trees.{Stmt, FuncTy}
 use Rattle.c65_csem.specs.Units.{IsProgram}
 use Rattle.c65_csem_plain.specs.Plain.{IsPlain}
 use Rattle.c65_code.specs.Placement.{IsPlacement, stack_start, stack_end}
-use Rattle.c65_genframe.specs.Frames.{Framed, frame_of}
 use Rattle.c65_genstmt.specs.Functions.{gives_of, no_lines, with_function}
 use Rattle.c65_genstmt.specs.Programs.{program_of}
 use Rattle.c65_agree_state.specs.World.{World, unit_in, Active, IsCallOf}
@@ -19,14 +18,9 @@ pub record IsCallIn (g : World) (names : List (List ℕ)) (a : Active) (f : Func
   pub call : IsCallOf g a
   pub function : slice_get (unit_in g).funcs a.func ≡ Some f
 
--- there are labels for all of its statements
+-- there are numbers for all of its labels
 abbrev pub HasFewLabels : World → Active → FuncTy → Stmt → Type 0
 HasFewLabels g a f body = (with_function a.frame (a.func == g.main) (Some body) (no_lines (gives_of g.parts f))).labels ≤ 2 ^ 32
-
--- and for those of each function of the program
-abbrev pub AllHaveFewLabels : World → Type 0
-AllHaveFewLabels g = (i : ℕ) (f : FuncTy) (body : Stmt) (z : Framed) → slice_get (unit_in g).funcs i ≡ Some f → f.body ≡ Some body → frame_of g.parts g.modes f ≡ Ok z
-    → (with_function z (i == g.main) (Some body) (no_lines (gives_of g.parts f))).labels ≤ 2 ^ 32
 
 -- the code is placed, and the call of the function is on the software stack with all that it has there
 pub record IsCalling (x : Calling) (names : List (List ℕ)) (f : FuncTy) : Type 0 where

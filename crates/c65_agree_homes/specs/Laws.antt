@@ -31,7 +31,7 @@ use Rattle.c65_agree_stmts.specs.Objects.{MayAllBegin, MayLand, HasGround}
 use Rattle.c65_agree_stmts.specs.Trees.{HasParts}
 use Rattle.c65_agree_homes.specs.Slots.{all_slots, behind_slots}
 use Rattle.c65_agree_homes.specs.Turns.{first_label, body_turns, CountsTurns}
-use Rattle.c65_agree_homes.specs.Frames.{IsCallIn, HasFewLabels, AllHaveFewLabels, IsCalling}
+use Rattle.c65_agree_homes.specs.Frames.{IsCallIn, HasFewLabels, IsCalling}
 use Rattle.c65_agree_homes.specs.Work.{HasWork}
 
 -- ---- parameters
@@ -70,16 +70,22 @@ LabelsMayLand = (x : Calling) (names : List (List ℕ)) (f : FuncTy) (l : ℕ) (
 abbrev pub GroundIsGiven : Type 0
 GroundIsGiven = (x : Calling) (names : List (List ℕ)) (f : FuncTy) → IsCalling x names f → x.active.first ≤ x.first.next → HasGround x
 
+-- ---- labels
+
+-- where the code of a program was made, its labels have numbers of 32 bits
+abbrev pub CallsHaveFewLabels : Type 0
+CallsHaveFewLabels = (g : World) (names : List (List ℕ)) (a : Active) (f : FuncTy) (body : Stmt) → IsCallIn g names a f → f.body ≡ Some body → HasFewLabels g a f body
+
 -- ---- turns
 
 -- the label of each loop stands at a line at which turns are counted
 abbrev pub HeadsAreCounted : Type 0
-HeadsAreCounted = (x : Calling) (names : List (List ℕ)) (f : FuncTy) (label q : ℕ) → IsCalling x names f → CountsTurns x.world → HasFewLabels x.world x.active f x.body
+HeadsAreCounted = (x : Calling) (names : List (List ℕ)) (f : FuncTy) (label q : ℕ) → IsCalling x names f → CountsTurns x.world
     → Contains (body_turns x.active.frame x.body) (LoopAt q) → slice_get (lines_of x.world x.active) q ≡ Some (Label label) → HeadIsCounted x label
 
 -- each jump to a label of the function is that of a `goto`, and counts its turn
 abbrev pub GotosCountTheirTurns : Type 0
-GotosCountTheirTurns = (x : Calling) (names : List (List ℕ)) (f : FuncTy) (l : ℕ) → IsCalling x names f → CountsTurns x.world → HasFewLabels x.world x.active f x.body
+GotosCountTheirTurns = (x : Calling) (names : List (List ℕ)) (f : FuncTy) (l : ℕ) → IsCalling x names f → CountsTurns x.world
     → Contains (labels_of x.body) l → GotosAreCounted x (following l)
 
 -- and so does each line that calls a function
@@ -91,12 +97,12 @@ CallsCountTheirTurns = (g : World) (names : List (List ℕ)) (a : Active) (f : F
 -- no more turns than so many arrivals at one of them.
 abbrev pub TurnsAreFew : Type 0
 TurnsAreFew = (g : World) (names : List (List ℕ)) → program_of g.parts g.main names g.modes ≡ Ok g.code → IsUnit (unit_in g)
-    → length (unit_in g).objects + length (unit_in g).literals + length (unit_in g).funcs ≤ 2 ^ 32 → AllHaveFewLabels g → CountsTurns g
+    → length (unit_in g).objects + length (unit_in g).literals + length (unit_in g).funcs ≤ 2 ^ 32 → CountsTurns g
     → suc (length g.heads + length g.owns) ≤ jumps (program_in g)
 
 -- ---- statements
 
 -- where the expressions and initial values of the body do their work, all is given that is asked of its statements
 abbrev pub PartsAreGiven : Type 0
-PartsAreGiven = (x : Calling) (names : List (List ℕ)) (f : FuncTy) → IsCalling x names f → CountsTurns x.world → HasFewLabels x.world x.active f x.body
+PartsAreGiven = (x : Calling) (names : List (List ℕ)) (f : FuncTy) → IsCalling x names f → CountsTurns x.world
     → HasWork x x.params 0 x.body (ways 0 0 0) 0 (first_label x.body) → HasParts x x.params 0 x.body (ways 0 0 0) 0 (first_label x.body)

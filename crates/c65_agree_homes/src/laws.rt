@@ -1,5 +1,5 @@
 // Laws of frames, blocks and turns, each the contract of a function that does nothing.
-ghost use Rattle.c65_agree_homes.specs.Laws.{CallsCountTheirTurns, GotosCountTheirTurns, GroundIsGiven, HeadsAreCounted, LabelsMayLand, LastParametersArrive, ObjectsMayBegin, ParametersHaveHomes, ParametersStandInOrder, PartsAreGiven, TurnsAreFew};
+ghost use Rattle.c65_agree_homes.specs.Laws.{CallsCountTheirTurns, CallsHaveFewLabels, GotosCountTheirTurns, GroundIsGiven, HeadsAreCounted, LabelsMayLand, LastParametersArrive, ObjectsMayBegin, ParametersHaveHomes, ParametersStandInOrder, PartsAreGiven, TurnsAreFew};
 
 /// The parameters of a function are distinct, and have their homes in its frame.
 pub fn parameters_have_homes()
@@ -29,6 +29,11 @@ pub fn labels_may_land()
 /// Objects that have one place for the whole run lie below the software stack.
 pub fn ground_is_given()
     ensures { GroundIsGiven }
+{}
+
+/// The labels of a function have numbers of 32 bits.
+pub fn calls_have_few_labels()
+    ensures { CallsHaveFewLabels }
 {}
 
 /// Turns are counted at the heads of loops.

@@ -1,7 +1,7 @@
 -- A call whose arguments are there, and the function that it calls.
 use Rattle.std.proofs.Common.{◌≡◌, ℕ, ◌+◌, ◌-◌, ◌<◌, ◌≤◌, Bool, true, false, List, [], ◌∷◌, length, refl, sym, ap, ◌∙◌, subst, arith}
-use Rattle.std.specs.Prelude.{IsTrue}
-use Rattle.c65_csem.specs.Trees.{call, Nodes, Stmt, FuncTy}
+use Rattle.std.specs.Prelude.{◌*◌, IsTrue}
+use Rattle.c65_csem.specs.Trees.{call, Nodes, none, some, Stmt, FuncTy}
 use Rattle.c65_meaning.specs.Store.{Value, Place, Shape}
 use Rattle.c65_meaning.specs.Shapes.{types_of}
 use Rattle.c65_meaning.specs.Items.{Item}
@@ -13,34 +13,36 @@ use Rattle.c65_code.specs.declared.parts.RegSet.{RegSet}
 use Rattle.c65_code.specs.Parts.{has_part}
 use Rattle.c65_code.specs.LineState.{State, Same, sp_of}
 use Rattle.c65_code.specs.Comes.{Seen}
-use Rattle.c65_genframe.specs.Frames.{Framed, saved_bytes}
+use Rattle.c65_genframe.specs.declared.home.Arrival.{Arrival}
+use Rattle.c65_genframe.specs.declared.home.Arrival.TheVariants.{Passed, Pushed, Kept as InRegbank}
+use Rattle.c65_genframe.specs.Frames.{Framed, is_kept, saved_bytes}
 use Rattle.c65_genframe.specs.Registers.{registers}
 use Rattle.c65_genframe.specs.Symbols.{numbers_of, function_symbol}
 use Rattle.c65_genexpr.specs.Arguments.{passed_of}
 use Rattle.c65_agree_store.specs.Stands.{Placing, Banks}
-use Rattle.c65_agree_state.specs.World.{World, Active, lines_of, place_in, owned_at, HasAt, HasTurns}
+use Rattle.c65_agree_state.specs.World.{World, unit_in, Active, lines_of, place_in, owned_at, HasAt, HasTurns}
 use Rattle.c65_agree_state.specs.Joins.{call_bytes}
 use Rattle.c65_agree_state.specs.Follows.{Follows}
 use Rattle.c65_agree_state.specs.Exprs.{Ready, Valued, MayFit, ResultIs, Kept, Done, Rest, width_in}
-use Rattle.c65_agree_state.specs.Stmts.{HasCall}
+use Rattle.c65_agree_between.specs.Stmts.{HasCall}
 use Rattle.c65_agree_state.proofs.Followed.{follows_weaken, ready_is_calm}
 use Rattle.c65_agree_state.proofs.Parts.{kept_goes_on}
 use Rattle.c65_agree_frame.specs.Leads.{IsOn}
 use Rattle.c65_agree_frame.specs.Ends.{IsPrimary, end_cost}
-use Rattle.c65_agree_frame.specs.Entries.{entry_cost}
 use Rattle.c65_agree_frame.proofs.Banks.{saved_few}
 use Rattle.c65_agree_leave.specs.Laws.{params_in}
+use Rattle.c65_agree_registers.specs.Entries.{register_cost}
+use Rattle.c65_agree_registers.proofs.Entries.{checks_are_cheap}
 use Rattle.c65_agree_enter.specs.Params.{AreDistinct}
 use Rattle.c65_agree_enter.specs.Entries.{FixedAreLow, HaveHomes}
 use Rattle.c65_agree_enter.specs.Laws.{IsAtEntry}
-use Rattle.c65_agree_call.specs.Calls.{frame_behind, IsCallFrom, IsPassedIn, CallStands, HasPassed, GoesOnBehind}
+use Rattle.c65_agree_call.specs.Calls.{frame_behind, IsCallFrom, IsPassedIn, CallStands, HasCome, GoesOnBehind}
 use Rattle.c65_agree_call.specs.Laws.{MayGo}
-use Rattle.c65_agree_argument.specs.Arguments.{Argument, AreArguments, waiting_bytes, AreThere, piled}
-use Rattle.c65_agree_argument.specs.Passed.{all_bytes, held_bytes, values_of, AreSmall, StandFrom, Takes}
+use Rattle.c65_agree_argument.specs.Arguments.{Argument, AreArguments, waiting_bytes, AreThere, left_of, piled}
+use Rattle.c65_agree_argument.specs.Passed.{held_bytes, ArrivesAs, values_of, AreSmall, AllTaken, entering, Takes}
 use Rattle.c65_agree_invoke.specs.Nodes.{IsCalling, IsCallee, BodiesDo, ResultsCome}
-use Rattle.c65_agree_argument.proofs.Passed.{bytes_split, arguments_are_passed}
-use Rattle.c65_agree_invoke.proofs.Homes.{have_homes}
-use Rattle.c65_agree_invoke.proofs.Taken.{values_are_taken, are_small, sizes_are, arrival_is, held_is, slots_stand}
+use Rattle.c65_agree_argument.proofs.Passed.{arguments_are_passed}
+use Rattle.c65_agree_invoke.proofs.Taken.{values_are_taken, are_small, held_is, stacked_are, arrives_as, stacked_split, all_taken}
 
 -- where a call may push a byte more than its values the scene has a call
 pub has_call : (g : World) (a : Active) (pushed needs : ℕ) (c : Scene) (w : Placing) (k : Banks) (t : State) → Ready g a pushed needs c w k t → 1 ≤ a.spare → HasCall c
@@ -50,9 +52,19 @@ has_call g a pushed needs c w k t r spare = by c.frames refl
     by [] e = let none : soft_sum c.frames ≡ 0 = ap soft_sum e in absurd (omega (arith, none, r.room, r.sp, r.joins.top, spare))
     by (f ∷ fs) e = (f, fs, e)
 
+-- the weight that arguments leave is enough for the parameters that move
+left_most : (es : Nodes) → 266 * length (types_of es) ≤ left_of es
+left_most none = omega arith
+left_most (some e es) = omega (arith, left_most es)
+
 -- the entry and the end of a function of so many bytes, and the line of its call
-pub frames_are_cheap : (h : Framed) → h.soft ≤ 1025 → h.stacked ≤ 1024 → 8 + (entry_cost h + end_cost h) ≤ 1144
-frames_are_cheap h small short = omega (arith, small, short)
+pub frames_are_cheap : (h : Framed) (es : Nodes) → h.soft ≤ 1025 → h.stacked ≤ 1024 → length h.moved ≤ length (types_of es) → 8 + (register_cost h + end_cost h) ≤ 1406 + left_of es
+frames_are_cheap h es small short few = omega (arith, small, short, few, left_most es, checks_are_cheap h.check)
+
+entering_most : (last : Arrival) (n : ℕ) → entering last n ≤ n
+entering_most Passed n = omega arith
+entering_most (Pushed m) n = omega arith
+entering_most (InRegbank bank bytes) n = omega arith
 
 held_most : (fast : Bool) (xs : List Argument) → AreSmall xs → held_bytes fast xs ≤ 4
 held_most fast [] small = omega arith
@@ -66,7 +78,7 @@ called g a i h spare gives last p c u = record {
   func = i;
   symbol = (function_symbol (numbers_of g.parts) i).0;
   frame = h;
-  base = sp_of u - (h.soft + (saved_bytes h.bank + last));
+  base = sp_of u - (h.soft + (saved_bytes h.bank + entering h.last last));
   first = c.next;
   raised = 0;
   behind = frame_behind g a p gives u ∷ u.frames;
@@ -103,48 +115,55 @@ module _ (g : World) (a : Active) (i : ℕ) (h : Framed) (needs spare e : ℕ) (
   held : held_bytes fast xs ≡ last
   held = held_is a.frame fast es xs args
 
-  base_is : its.base + (h.soft + (saved_bytes h.bank + last)) ≡ sp_of u
-  base_is = omega (arith, callee.small, saved_few h.bank, held, held_most fast xs small, is_on.stacks.soft)
+  base_is : its.base + (h.soft + (saved_bytes h.bank + entering h.last last)) ≡ sp_of u
+  base_is = omega (arith, callee.small, saved_few h.bank, held, held_most fast xs small, entering_most h.last last, is_on.stacks.soft)
 
-  sizes : h.stacked ≡ all_bytes xs
-  sizes = callee.stacked ∙ sym (sizes_are a.frame es xs args)
+  same_entering : entering h.last (held_bytes fast xs) ≡ entering h.last last
+  same_entering = ap (entering h.last) held
+
+  sizes : h.stacked ≡ waiting_bytes (is_kept h.last) xs
+  sizes = callee.stacked ∙ sym (stacked_are (is_kept h.last) a.frame es xs args)
+
+  arrives : ArrivesAs fast xs h.last
+  arrives = arrives_as a.frame fast es xs h.last args callee.arrives
 
   takes : Takes g its fast xs u
   takes = record {
-    homes = subst (λ is. StandFrom g its (its.base + (h.soft + saved_bytes h.bank)) is xs) params_are (slots_stand g its a.frame h (h.soft + saved_bytes h.bank) function.params es xs refl refl callee.slots args);
-    arrives = callee.arrives ∙ sym (arrival_is a.frame fast es xs args);
+    moves = callee.moves;
+    none_raised = refl;
+    homes = subst (λ is. AllTaken (is_kept h.last) (unit_in g) h (h.soft + saved_bytes h.bank) is xs) params_are (all_taken (is_kept h.last) (unit_in g) a.frame h (h.soft + saved_bytes h.bank) function.params es xs callee.slots args);
+    arrives = arrives;
     stacked = sizes;
-    base = omega (arith, base_is, held);
+    base = omega (arith, base_is, same_entering);
   }
 
   top : its.base + call_bytes its ≡ sp_of u + wait
-  top = omega (arith, base_is, sizes, held, bytes_split fast xs)
+  top = omega (arith, base_is, sizes, same_entering, stacked_split fast xs h.last arrives)
 
   homes : HaveHomes g its function.params
-  homes = have_homes g its a.frame h function.params es refl refl callee.slots callee.stacked (omega (arith, base_is, held, held_most fast xs small, is_on.stacks.soft)) (omega (arith, top, ready.sp, ready.joins.top))
+  homes = callee.homes its is_calling (omega (arith, base_is, callee.small, saved_few h.bank, held, held_most fast xs small, entering_most h.last last, is_on.stacks.soft)) (omega (arith, top, ready.sp, ready.joins.top))
 
   pub stands : CallStands g a its (frame_behind g a at gives u) wait needs function body (types_of es) c q b u
   stands = record {
-    joins = ready.joins;
-    within = omega (arith, ready.sp);
-    none_pushed = ready.none_pushed;
-    behind = ap (λ fs. frame_behind g a at gives u ∷ fs) ready.joins.frames;
-    pushed = refl;
-    top = top;
-    plain = callee.plain;
+    made = record {
+      below = record { joins = ready.joins; within = omega (arith, ready.sp); none_pushed = ready.none_pushed; behind = ap (λ fs. frame_behind g a at gives u ∷ fs) ready.joins.frames; pushed = refl; top = top };
+      moves = callee.moves;
+      is_function = callee.is_function;
+      has_body = callee.has_body;
+      calls = refl;
+      first = refl;
+      homes = subst (λ is. HaveHomes g its is) params_are homes;
+      distinct = subst AreDistinct params_are callee.distinct;
+      room = omega (arith, base_is, callee.costs, ready.room);
+      asks = omega (arith, callee.asks, ready.room);
+    };
+    fixed = callee.fixed;
     none_raised = refl;
-    is_function = callee.is_function;
-    has_body = callee.has_body;
     all_named = callee.all_named;
-    calls = refl;
-    first = refl;
-    homes = subst (λ is. HaveHomes g its is) params_are homes;
-    distinct = subst AreDistinct params_are callee.distinct;
-    room = omega (arith, base_is, callee.costs, ready.room);
   }
 
-  pub passes : (u2 : State) → IsAtEntry its u u2 → IsPassedIn (registers last) u u2 → HasPassed g its (values_of xs) q b u2
-  passes u2 entry same = arguments_are_passed g its fast xs q b u u2 small takes there ready.joins.bytes entry (subst (λ m. IsPassedIn (registers m) u u2) (sym held) same)
+  pub passes : (u2 : State) → IsAtEntry its u u2 → IsPassedIn (registers last) u u2 → HasCome g its (values_of xs) q u2
+  passes u2 entry same = arguments_are_passed g its fast xs q u u2 small takes there ready.joins.bytes entry (subst (λ m. IsPassedIn (registers m) u u2) (sym held) same)
 
   -- what the call asks for, where the rest is followed behind it
   pub may_go : (reads : RegSet) (n most w : ℕ) (shape : Shape) (vs : List Value) (below : List Item) → FixedAreLow g → 1 ≤ a.spare → 1 ≤ owned_at g.owns (place_in g a at) → ((u2 : State) → IsPassedIn reads u u2 → IsPassedIn (registers last) u u2)

@@ -9,7 +9,7 @@ use Rattle.c65_agree_state.specs.World.{World, unit_in, Active}
 use Rattle.c65_agree_invoke.specs.Nodes.{BodiesDo, TargetsMayBeCalled}
 use Rattle.c65_agree_invoke.specs.Expressions.{NamedCallsAreExpressions, PointerCallsAreExpressions}
 use Rattle.c65_agree_invoke.proofs.Named.{named_calls_do}
-use Rattle.c65_agree_invoke.proofs.Stacked.{pointer_calls_do}
+use Rattle.c65_agree_invoke.proofs.Reaching.{pointer_calls_do}
 
 -- for fewer steps
 fewer_do : (g : World) (i : ℕ) (h : Framed) (needs spare : ℕ) (body : Stmt) (result : Shape) (n m : ℕ) → n ≤ m → BodiesDo g i h needs spare body result m → BodiesDo g i h needs spare body result n

@@ -1,10 +1,15 @@
+pub mod Above
 pub mod Accepted
 pub mod Calling
+pub mod Counts
+pub mod Direct
 pub mod Expressions
 pub mod Fetching
-pub mod Homes
+pub mod Lines
 pub mod Named
 pub mod Pointers
+pub mod Reaching
 pub mod Results
+pub mod Returned
 pub mod Stacked
 pub mod Taken

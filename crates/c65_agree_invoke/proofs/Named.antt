@@ -36,10 +36,10 @@ use Rattle.c65_agree_state.proofs.Nodes.{has_front, has_back}
 use Rattle.c65_agree_enter.specs.Entries.{FixedAreLow}
 use Rattle.c65_agree_call.specs.Calls.{frame_behind, HasReturned}
 use Rattle.c65_agree_call.proofs.Called.{calls_by_name_are_followed}
-use Rattle.c65_agree_argument.specs.Arguments.{Argument, AreArguments, waiting_bytes, AreThere, piled, IsOver, ArgumentsDo}
+use Rattle.c65_agree_argument.specs.Arguments.{Argument, AreArguments, waiting_bytes, AreThere, piled, left_of, IsOver, ArgumentsDo}
 use Rattle.c65_agree_argument.specs.Passed.{values_of}
 use Rattle.c65_agree_invoke.specs.Nodes.{IsCallee, BodiesDo, ResultsCome, CallsAreOwned, DoesFor, by_name, gives_in, NamedCallsDo}
-use Rattle.c65_agree_argument.proofs.Arguments.{arguments_are_followed}
+use Rattle.c65_agree_argument.proofs.Arguments.{arguments_leave_weight}
 use Rattle.c65_agree_argument.proofs.Over.{over_call, over_all}
 use Rattle.c65_agree_invoke.proofs.Calling.{frames_are_cheap, called, is_from, may_go, comes_back}
 
@@ -105,25 +105,25 @@ module _ (g : World) (a : Active) (i : ℕ) (h : Framed) (needs spare e : ℕ) (
           comes_back g a shape (common_of gives ((setting_in g).gives (function_symbol (numbers_of g.parts) i).0)) after come pushed n w (suc at) (p + length all) k vs c q b u0 rest (omega (arith, length-append own (line ∷ after))) (has_back (lines_of g a) p own (line ∷ after) has).1
           o v c3 q3 b3 back.last u3 later (omega (arith, lt, few)) kept_all ready_back back.fits back.value back.given turns
 
-    is_invoked : (later : Seen) → HasTurns g c2.turns (place_in g a at) later → Follows g j w (Running (Invoke (type_in s) (types_of es) ∷ k) (piled xs (Place i 0 ∷ vs)) c2) (place_in g a at) u later
+    is_invoked : (later : Seen) → HasTurns g c2.turns (place_in g a at) later → Follows g j (w + 262 + left_of es) (Running (Invoke (type_in s) (types_of es) ∷ k) (piled xs (Place i 0 ∷ vs)) c2) (place_in g a at) u later
     is_invoked later turns =
         let symbol : name.0 ≡ its.symbol = ap (λ x. (function_symbol (numbers_of x) i).0) parts in
         let there_is : slice_get (lines_of g a) at ≡ Some line = (has_back (lines_of g a) p own (line ∷ after) has).0 in
-        calls_by_name_are_followed g a its name (registers last) gives wait needs j w (w + 2856) at e (type_in s) function body (types_of es) shape (values_of xs) vs (piled xs (Place i 0 ∷ vs)) k c2 q2 b2 u later placed
+        calls_by_name_are_followed g a its name (registers last) gives wait needs j (w + 262 + left_of es) (w + 2856) at e (type_in s) function body (types_of es) shape (values_of xs) vs (piled xs (Place i 0 ∷ vs)) k c2 q2 b2 u later placed
         (is_from g a i h needs spare e function body fast es callee gives at pushed xs c2 q2 b2 u args ready there) symbol (there_is, tt)
         (may_go g a i h needs spare e function body fast es callee gives at pushed xs c2 q2 b2 u args ready there (registers last) n j (w + 2856) shape vs k low spared (owned at (Function name (registers last) gives) tt there_is) (λ u2 same. same) few (omega arith) bodies
         (λ o lt m v c3 q3 b3 u3 later2 less back turns2. goes_back v c3 q3 b3 u3 back m later2 (omega (arith, lt, less)) turns2))
-        (omega (arith, frames_are_cheap h callee.small callee.short)) turns
+        (omega (arith, frames_are_cheap h es callee.small callee.short callee.few)) turns
 
-  -- the pointer to the function takes two steps and no line
+  -- the pointer to the function takes two steps and no line, whose weight is enough for a check of the stacks
   does_all : (n : ℕ) → ArgumentsDo g a es → BodiesDo g i h needs spare body shape n → DoesFor g a n Valued shape (plan (unit_in g) (node t (call (by_name s r i) es))) (need (node t (call (by_name s r i) es))) pushed all
   does_all n arguments bodies w p k vs c q b u0 seen has r0 turns rest =
       let calm : IsCalm (setting_in g) u0 = (ready_is_calm g a pushed (need (node t (call (by_name s r i) es))) c q b u0 r0).calm in
       let work : List Item = plan_all (unit_in g) es (Invoke (type_in s) (types_of es) ∷ k) in
       steps_earn g n w (Push (Place i 0)) (Keep ∷ work) vs c (place_in g a p) u0 seen calm r0.joins.output r0.joins.ended (omega (arith, turns)) (λ j lt.
       steps_earn g j (w + 4000) Keep work (Place i 0 ∷ vs) c (place_in g a p) u0 seen calm r0.joins.output r0.joins.ended (omega (arith, turns)) (λ m less.
-      follows_weaken g m w (w + 4000 + 4000) (Running work (Place i 0 ∷ vs) c) (place_in g a p) u0 seen (omega arith)
-      (arguments_are_followed g a fast es pushed fresh placed arguments m w p (Invoke (type_in s) (types_of es) ∷ k) (Place i 0 ∷ vs) c q b u0 seen (has_front (lines_of g a) p own (line ∷ after) has)
+      follows_weaken g m (w + 262) (w + 4000 + 4000) (Running work (Place i 0 ∷ vs) c) (place_in g a p) u0 seen (omega arith)
+      (arguments_leave_weight g a fast es pushed fresh placed arguments m (w + 262) p (Invoke (type_in s) (types_of es) ∷ k) (Place i 0 ∷ vs) c q b u0 seen (has_front (lines_of g a) p own (line ∷ after) has)
       (record { joins = r0.joins; sp = r0.sp; room = omega (arith, r0.room); none_pushed = r0.none_pushed }) (omega (arith, r0.room)) turns (λ o xs c2 q2 b2 u later le args over ready there turns2.
       is_invoked n o w p k vs c q b u0 (omega (arith, lt, less, le)) has rest bodies xs c2 q2 b2 u args over ready there later turns2))))
 

@@ -1,20 +1,19 @@
 -- The values of arguments as the meaning takes them, and their bytes as the called function does.
-use Rattle.std.proofs.Common.{◌≡◌, ℕ, zero, suc, ◌+◌, Bool, true, false, List, [], ◌∷◌, ◌++◌, Option, Some, None, length, refl, ap, ◌∙◌, arith}
+use Rattle.std.proofs.Common.{◌≡◌, ℕ, zero, suc, ◌+◌, Bool, true, false, List, [], ◌∷◌, ◌++◌, Option, Some, None, length, refl, sym, ap, ◌∙◌, subst, arith}
 use Rattle.c65_ctype.specs.Trees.{Ty}
-use Rattle.c65_csem.specs.Trees.{Nodes, none, some}
+use Rattle.c65_csem.specs.Trees.{Nodes, none, some, UnitTy}
 use Rattle.c65_meaning.specs.Store.{Value}
 use Rattle.c65_meaning.specs.Shapes.{types_of}
 use Rattle.c65_meaning.specs.Step.{taken}
-use Rattle.c65_genframe.specs.Frames.{Framed}
+use Rattle.c65_genframe.specs.declared.home.Arrival.{Arrival}
+use Rattle.c65_genframe.specs.declared.home.Arrival.TheVariants.{Passed, Pushed, Kept}
+use Rattle.c65_genframe.specs.Frames.{Framed, is_kept}
 use Rattle.c65_genexpr.specs.Arguments.{stays, passed_of}
-use Rattle.c65_agree_store.specs.Stands.{At}
-use Rattle.c65_agree_state.specs.World.{World, unit_in, Active}
-use Rattle.c65_agree_state.specs.Joins.{spot_of}
-use Rattle.c65_agree_argument.specs.Arguments.{Argument, AreArguments, is_last, piled}
-use Rattle.c65_agree_argument.specs.Passed.{all_bytes, held_bytes, arrival_by, values_of, AreSmall, StandFrom}
-use Rattle.c65_agree_invoke.specs.Nodes.{sizes_of, arrival_of, HaveSlots}
+use Rattle.c65_agree_argument.specs.Arguments.{Argument, AreArguments, is_last, waiting_bytes, piled}
+use Rattle.c65_agree_argument.specs.Passed.{all_bytes, held_bytes, arrival_by, ArrivesAs, values_of, AreSmall, IsTakenBy, AllTaken, entering}
 use Rattle.c65_agree_argument.proofs.Arguments.{size_least, size_most}
-use Rattle.c65_agree_invoke.proofs.Homes.{spot_is}
+use Rattle.c65_agree_argument.proofs.Passed.{bytes_split, all_wait}
+use Rattle.c65_agree_invoke.specs.Nodes.{sizes_of, arrival_of, IsArrival, stacked_of, HaveSlots}
 
 -- ---- values
 
@@ -88,15 +87,34 @@ held_is f fast (some e none) (x ∷ y ∷ ys) h = absurd h.1
 held_is f fast (some e (some e2 es)) (x ∷ []) h = absurd h.1
 held_is f fast (some e (some e2 es)) (x ∷ y ∷ ys) h = let others = held_is f fast (some e2 es) (y ∷ ys) h.1 in omega (arith, others)
 
+-- those that are on the software stack
+pub stacked_are : (kept : Bool) (f : Framed) (es : Nodes) (xs : List Argument) → AreArguments f es xs → waiting_bytes kept xs ≡ stacked_of kept f es
+stacked_are kept f none [] h = refl
+stacked_are kept f none (x ∷ xs) h = absurd h
+stacked_are kept f (some e es) [] h = absurd h
+stacked_are kept f (some e es) (x ∷ xs) h = rw (last_is f kept es xs h.1, h.0, stacked_are kept f es xs h.1) refl
+
+pub arrives_as : (f : Framed) (fast : Bool) (es : Nodes) (xs : List Argument) (last : Arrival) → AreArguments f es xs → IsArrival f fast es last → ArrivesAs fast xs last
+arrives_as f fast es xs Passed args h = h ∙ sym (arrival_is f fast es xs args)
+arrives_as f fast es xs (Pushed n) args h = h ∙ sym (arrival_is f fast es xs args)
+arrives_as f fast es xs (Kept bank bytes) args h = h
+
+-- what the entry pushes stands below those that wait
+pub stacked_split : (fast : Bool) (xs : List Argument) (last : Arrival) → ArrivesAs fast xs last → waiting_bytes (is_kept last) xs ≡ entering last (held_bytes fast xs) + waiting_bytes fast xs
+stacked_split fast xs Passed h = all_wait xs ∙ bytes_split fast xs
+stacked_split fast xs (Pushed n) h = all_wait xs ∙ bytes_split fast xs
+stacked_split fast xs (Kept bank bytes) h =
+    let same : waiting_bytes true xs ≡ waiting_bytes fast xs = ap (λ (b : Bool). waiting_bytes b xs) (sym h) in
+    omega (arith, same)
+
 -- ---- homes
 
-pub slots_stand : (g : World) (a : Active) (f h : Framed) (at : ℕ) (is : List ℕ) (es : Nodes) (xs : List Argument) → a.frame ≡ h → a.raised ≡ 0 → HaveSlots (unit_in g) f h at is es → AreArguments f es xs → StandFrom g a (a.base + at) is xs
-slots_stand g a f h at [] none [] same flat slots args = tt
-slots_stand g a f h at [] none (x ∷ xs) same flat slots args = absurd args
-slots_stand g a f h at [] (some e es) xs same flat slots args = absurd slots
-slots_stand g a f h at (i ∷ is) none xs same flat slots args = absurd slots
-slots_stand g a f h at (i ∷ is) (some e es) [] same flat slots args = absurd args
-slots_stand g a f h at (i ∷ is) (some e es) (x ∷ xs) same flat slots args =
-    let sum : a.base + (at + sizes_of f es) ≡ a.base + at + all_bytes xs = omega (arith, sizes_are f es xs args.1) in
-    let spot : spot_of g a i ≡ At (a.base + (at + sizes_of f es)) = spot_is g a h i (at + sizes_of f es) same flat slots.0 in
-    (spot ∙ ap At sum, omega (arith, slots.1, args.0), slots_stand g a f h at is es xs same flat slots.2 args.1)
+pub all_taken : (kept : Bool) (u : UnitTy) (f h : Framed) (at : ℕ) (is : List ℕ) (es : Nodes) (xs : List Argument) → HaveSlots kept u f h at is es → AreArguments f es xs → AllTaken kept u h at is xs
+all_taken kept u f h at [] none [] slots args = tt
+all_taken kept u f h at [] none (x ∷ xs) slots args = absurd args
+all_taken kept u f h at [] (some e es) xs slots args = absurd slots
+all_taken kept u f h at (i ∷ is) none xs slots args = absurd slots
+all_taken kept u f h at (i ∷ is) (some e es) [] slots args = absurd args
+all_taken kept u f h at (i ∷ is) (some e es) (x ∷ xs) slots args =
+    let here : IsTakenBy (is_last kept xs) u h i (at + stacked_of kept f es) = subst (λ (b : Bool). IsTakenBy b u h i (at + stacked_of kept f es)) (sym (last_is f kept es xs args.1)) slots.0 in
+    (subst (λ (n : ℕ). IsTakenBy (is_last kept xs) u h i (at + n)) (sym (stacked_are kept f es xs args.1)) here, omega (arith, slots.1, args.0), all_taken kept u f h at is es xs slots.2 args.1)

@@ -17,18 +17,17 @@ use Rattle.c65_code.specs.declared.parts.RegSet.{RegSet}
 use Rattle.c65_code.specs.Parts.{has_part}
 use Rattle.c65_code.specs.LineState.{State, Same}
 use Rattle.c65_code.specs.Moves.{common_of}
-use Rattle.c65_code.specs.Placement.{IsPlacement, stack_end}
+use Rattle.c65_code.specs.Placement.{IsPlacement, program_start, stack_end}
 use Rattle.c65_code.specs.Steady.{HasLines}
 use Rattle.c65_code.specs.Comes.{Seen}
-use Rattle.c65_genframe.specs.declared.home.Home.TheVariants.{Soft}
 use Rattle.c65_genframe.specs.declared.home.Arrival.{Arrival}
-use Rattle.c65_genframe.specs.declared.home.Arrival.TheVariants.{Passed, Pushed}
-use Rattle.c65_genframe.specs.Frames.{Framed, home_of, saved_bytes}
+use Rattle.c65_genframe.specs.declared.home.Arrival.TheVariants.{Passed, Pushed, Kept as InRegbank}
+use Rattle.c65_genframe.specs.Frames.{Framed, is_kept, saved_bytes}
 use Rattle.c65_genframe.specs.Symbols.{numbers_of, function_symbol}
 use Rattle.c65_genframe.specs.Registers.{registers}
 use Rattle.c65_genexpr.specs.declared.wanted.Wanted.TheVariants as wanted
 use Rattle.c65_genexpr.specs.Types.{outcome_of, given_bytes, bare}
-use Rattle.c65_genexpr.specs.Arguments.{is_fast, is_counted, stays, passed_size, passed_of}
+use Rattle.c65_genexpr.specs.Arguments.{is_fast, is_counted, stays, passed_size, passed_of, argument_bytes}
 use Rattle.c65_genexpr.specs.Calls.{named, library_at, result_code}
 use Rattle.c65_genexpr.specs.Code.{expr_code}
 use Rattle.c65_agree_store.specs.Stands.{Placing, Banks}
@@ -40,11 +39,13 @@ use Rattle.c65_agree_state.specs.Exprs as exprs
 use Rattle.c65_agree_put.specs.Laws.{IsScalar}
 use Rattle.c65_agree_frame.specs.Leads.{Leads}
 use Rattle.c65_agree_frame.specs.Ends.{IsPrimary}
-use Rattle.c65_agree_frame.specs.Entries.{IsPlainFrame}
+use Rattle.c65_agree_registers.specs.Checks.{asked_by}
+use Rattle.c65_agree_registers.specs.Entries.{HasMoves}
 use Rattle.c65_agree_enter.specs.Params.{shape_in, AreDistinct}
-use Rattle.c65_agree_enter.specs.Entries.{FixedAreLow}
+use Rattle.c65_agree_enter.specs.Entries.{FixedAreLow, HaveHomes}
 use Rattle.c65_agree_call.specs.Calls.{cost_of, HasEnds, BodyDoes}
 use Rattle.c65_agree_argument.specs.Arguments.{ArgumentsDo}
+use Rattle.c65_agree_argument.specs.Passed.{IsTakenBy, entering}
 
 -- ---- the called function
 
@@ -57,12 +58,22 @@ abbrev pub arrival_of : Framed → Bool → Nodes → Arrival
 arrival_of f fast none = Passed
 arrival_of f fast (some e es) = if stays fast es then Pushed (passed_size f e) else arrival_of f fast es
 
--- each parameter has its home in the frame h where the argument comes that a function with the frame f passes: one below another, down to
--- this offset
-abbrev pub HaveSlots : UnitTy → Framed → Framed → ℕ → List ℕ → Nodes → Type 0
-HaveSlots u f h at [] none = Unit {0}
-HaveSlots u f h at (i ∷ is) (some e es) = (home_of h i ≡ Some (Soft (at + sizes_of f es))) × (size_in (shape_in u i) ≤ passed_size f e) × HaveSlots u f h at is es
-HaveSlots u f h at _ _ = ⊥
+-- so it does, or the function has its parameter in regbank
+abbrev pub IsArrival : Framed → Bool → Nodes → Arrival → Type 0
+IsArrival f fast es (InRegbank bank bytes) = IsTrue fast
+IsArrival f fast es last = last ≡ arrival_of f fast es
+
+-- the bytes of all arguments but the last, where that one is kept in registers
+abbrev pub stacked_of : Bool → Framed → Nodes → ℕ
+stacked_of kept f none = 0
+stacked_of kept f (some e es) = argument_bytes (stays kept es) (passed_size f e) + stacked_of kept f es
+
+-- the frame h takes each parameter from where the argument comes that a function with the frame f passes: one below another, down to this
+-- offset, but for the last one where it is kept in registers
+abbrev pub HaveSlots : Bool → UnitTy → Framed → Framed → ℕ → List ℕ → Nodes → Type 0
+HaveSlots kept u f h at [] none = Unit {0}
+HaveSlots kept u f h at (i ∷ is) (some e es) = IsTakenBy (stays kept es) u h i (at + stacked_of kept f es) × (size_in (shape_in u i) ≤ passed_size f e) × HaveSlots kept u f h at is es
+HaveSlots kept u f h at _ _ = ⊥
 
 -- a call of the function i with this frame
 pub record IsCalling (g : World) (i : ℕ) (h : Framed) (spare : ℕ) (a : Active) : Type 0 where
@@ -73,7 +84,7 @@ pub record IsCalling (g : World) (i : ℕ) (h : Framed) (spare : ℕ) (a : Activ
   pub spare_bytes : a.spare ≡ spare
 
 -- The function i has a body and lines of its own, and takes these arguments of a function with the frame f and no further ones. Its costs
--- in the source are enough for what it takes of the software stack.
+-- in the source are enough for what it takes of the software stack, and for what its entry asks where it checks the stacks.
 pub record IsCallee (g : World) (f : Framed) (i : ℕ) (h : Framed) (needs spare e : ℕ) (function : FuncTy) (body : Stmt) (fast : Bool) (es : Nodes) : Type 0 where
   pub own : (setting_in g).library (function_symbol (numbers_of g.parts) i).0 ≡ None
   pub lines : HasLines ((setting_in g).lines (function_symbol (numbers_of g.parts) i).0)
@@ -81,14 +92,18 @@ pub record IsCallee (g : World) (f : Framed) (i : ℕ) (h : Framed) (needs spare
   pub is_function : slice_get (unit_in g).funcs i ≡ Some function
   pub has_body : function.body ≡ Some body
   pub all_named : is_variadic function.ty ≡ false
-  pub plain : IsPlainFrame h
+  pub fixed : h.variadic ≡ false
+  pub moves : HasMoves h
+  pub homes : (a : Active) → IsCalling g i h spare a → program_start ≤ a.base → a.base + call_bytes a ≤ stack_end → HaveHomes g a function.params
   pub distinct : AreDistinct function.params
-  pub slots : HaveSlots (unit_in g) f h (h.soft + saved_bytes h.bank) function.params es
-  pub arrives : h.last ≡ arrival_of f fast es
-  pub stacked : h.stacked ≡ sizes_of f es
+  pub slots : HaveSlots (is_kept h.last) (unit_in g) f h (h.soft + saved_bytes h.bank) function.params es
+  pub arrives : IsArrival f fast es h.last
+  pub stacked : h.stacked ≡ stacked_of (is_kept h.last) f es
+  pub few : length h.moved ≤ length (types_of es)
   pub small : h.soft ≤ 1025
   pub short : h.stacked ≤ 1024
-  pub costs : h.soft + (saved_bytes h.bank + (passed_of f fast es).last) + 8 * needs + spare ≤ cost_of (unit_in g) (types_of es) body
+  pub costs : h.soft + (saved_bytes h.bank + entering h.last (passed_of f fast es).last) + 8 * needs + spare ≤ cost_of (unit_in g) (types_of es) body
+  pub asks : asked_by h.check ≤ cost_of (unit_in g) (types_of es) body
 
 -- its body does its work in each of its calls that are on the software stack with all that they have there, for less than n steps
 abbrev pub BodiesDo : World → ℕ → Framed → ℕ → ℕ → Stmt → Shape → ℕ → Type 0

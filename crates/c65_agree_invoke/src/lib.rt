@@ -4,6 +4,7 @@
 mod laws;
 
 pub use laws::{
-    accepted_calls_agree, named_calls_are_expressions, named_calls_do,
-    pointer_calls_are_expressions, pointer_calls_do, scalars_come_back,
+    accepted_calls_agree, lined_functions_may_be_reached, named_calls_are_expressions,
+    named_calls_do, pointer_calls_are_expressions, pointer_calls_do,
+    reaching_calls_are_expressions, reaching_calls_do, scalars_come_back,
 };

@@ -1,6 +1,6 @@
 -- The scene behind a call belongs to the state, as the outer function's.
 use Rattle.std.proofs.Common.{◌≡◌, ℕ, suc, ◌+◌, ◌<◌, ◌≤◌, ◌⊎◌, inl, inr, List, [], ◌∷◌, Option, Some, None, Bool, true, false, refl, sym, ap, ◌∙◌, subst, arith}
-use Rattle.std.specs.Prelude.{IsTrue, nat_lt, if◌then◌else◌, length, slice_get}
+use Rattle.std.specs.Prelude.{IsTrue, nat_lt, if◌then◌else◌, length, slice_get, All}
 use Rattle.std.proofs.lemmas.Bool.{cases_lt}
 use Rattle.c65_csem.specs.Trees.{UnitTy}
 use Rattle.c65_csem.specs.Places.{is_fixed_object}
@@ -17,9 +17,9 @@ use Rattle.c65_agree_state.specs.World.{World, unit_in, Active}
 use Rattle.c65_agree_state.specs.Fixed.{symbol_at, HasFor, HaveOwnObjects, AreOnce, HaveFixed}
 use Rattle.c65_agree_state.specs.Joins.{call_bytes, IsOfCall, HasBlock, HasBank, IsRest, Joins, spot_of}
 use Rattle.c65_agree_state.specs.Exprs.{bounds_of}
-use Rattle.c65_agree_state.specs.Stmts.{AreOpen, Between, Keeping}
+use Rattle.c65_agree_between.specs.Stmts.{AreOpen, Between, Keeping}
 use Rattle.c65_agree_state.proofs.Scratch.{constants_are_low}
-use Rattle.c65_agree_state.proofs.Parts.{lives_by}
+use Rattle.c65_agree_state.proofs.Parts.{lives_by, sizes_stay, sized_stay}
 use Rattle.c65_agree_frame.specs.Ends.{IsLeft}
 use Rattle.c65_agree_leave.specs.Calls.{IsEntered, scene_behind, IsBehind}
 use Rattle.c65_agree_leave.specs.Laws.{params_in}
@@ -191,18 +191,18 @@ module _ (g : World) (a outer : Active) (frame : Frame) (passed needs : ℕ) (c0
           go (inl h) = absurd (not_own d x at.is at.live (inl (i, h)))
           go (inr h) = subst (HasFor i d) below h
 
+  placed_old : {d : ℕ} {q : Spot} → w0 d ≡ Some q → (d < c0.next) ⊎ (c0.next ≤ d) → d < c0.next
+  placed_old at (inl lt) = lt
+  placed_old {d} {q} at (inr le) =
+      let clash : Some q ≡ None = sym at ∙ j0.fresh d le in
+      cc
+
   rests_stay : (d : ℕ) → rest_in c2.frames ≡ Some d → IsRest outer c2 w d
   rests_stay d is =
       let r = j0.rests d (sym (ap rest_in frames_same) ∙ is) in
       let bounds : bounds_of (c2.store d) ≡ Some (r.block.size, r.block.live) = old_bounds d (placed_old r.place (cases_lt d c0.next)) ∙ ap bounds_of r.is in
       let h = from_bounds (c2.store d) r.block.size r.block.live bounds in
       record { block = h.block; is = h.is; place = all_grows d _ r.place; size = h.size ∙ r.size }
-    where
-      placed_old : {q : Spot} → w0 d ≡ Some q → (d < c0.next) ⊎ (c0.next ≤ d) → d < c0.next
-      placed_old at (inl lt) = lt
-      placed_old {q} at (inr le) =
-          let clash : Some q ≡ None = sym at ∙ j0.fresh d le in
-          cc
 
   has_same : (d : ℕ) → HasBlock c2 d → HasBlock c0 d
   has_same d (inl h) = inl (h.0, sym (ap (λ fs. block_in fs h.0) frames_same) ∙ h.1)
@@ -259,6 +259,8 @@ module _ (g : World) (a outer : Active) (frame : Frame) (passed needs : ℕ) (c0
     bank = bank_back;
     symbols = j.symbols;
     fixed = fixed_stay;
+    sizes = sizes_stay (unit_in g) c0.store c2.store c0.next c2.next (omega (arith, e.next, kept.next, same_else.next)) old_bounds j0.sizes;
+    sized = sized_stay (unit_in g) c0 c2 frames_same (λ i d is. old_bounds d (placed_old (j0.homes i d is) (cases_lt d c0.next))) j0.sized;
     fresh = λ b le. j.fresh b (omega (arith, le, same_else.next));
     homes = λ i b is. all_grows b (spot_of g outer i) (j0.homes i b (sym (ap (λ fs. block_in fs i) frames_same) ∙ is));
     rests = rests_stay;
@@ -281,6 +283,7 @@ module _ (g : World) (a outer : Active) (frame : Frame) (passed needs : ℕ) (c0
     count_free = λ v d x q i at lt there. count_stays d x q i at lt there (j0.count_free v);
     frames = left.frames_are;
     input = left.input ∙ (j.input ∙ sym same_else.input);
+    read = subst (All (λ v. v < 256)) (sym same_else.input) j.read;
     output = left.output ∙ (j.output ∙ sym same_else.out);
     ended = left.ended ∙ j.ended;
     bytes = left.bytes;

@@ -11,7 +11,7 @@ use Rattle.c65_code.specs.LineState.{Bytes}
 use Rattle.c65_agree_store.specs.Stands.{Placing, Banks, Stands}
 use Rattle.c65_agree_store.proofs.Keep.{block_same, block_other, blocks_end}
 use Rattle.c65_agree_state.specs.Joins.{HasBlock}
-use Rattle.c65_agree_state.specs.Stmts.{AreOpen}
+use Rattle.c65_agree_between.specs.Stmts.{AreOpen}
 
 -- ---- one block
 

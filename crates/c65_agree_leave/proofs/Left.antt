@@ -13,9 +13,9 @@ use Rattle.c65_agree_state.specs.World.{World, unit_in, Active, place_in, HasTur
 use Rattle.c65_agree_state.specs.Joins.{Joins, call_bytes}
 use Rattle.c65_agree_state.specs.Follows.{Follows}
 use Rattle.c65_agree_state.specs.Laws.{HasStacks}
-use Rattle.c65_agree_state.specs.Stmts.{Between}
+use Rattle.c65_agree_between.specs.Stmts.{Between}
 use Rattle.c65_agree_state.proofs.Followed.{ready_is_calm}
-use Rattle.c65_agree_state.proofs.Parts.{between_is_ready}
+use Rattle.c65_agree_between.proofs.Between.{between_is_ready}
 use Rattle.c65_agree_frame.specs.Ends.{MayEnd, end_cost}
 use Rattle.c65_agree_frame.proofs.Ends.{ends_are_followed}
 use Rattle.c65_agree_leave.specs.Calls.{scene_behind}

@@ -15,7 +15,7 @@ use Rattle.c65_agree_store.specs.Stands.{Placing, Banks}
 use Rattle.c65_agree_state.specs.World.{World, unit_in, setting_in, Active, lines_of, place_in, HasAt, HasTurns}
 use Rattle.c65_agree_state.specs.Joins.{Joins}
 use Rattle.c65_agree_state.specs.Follows.{Follows}
-use Rattle.c65_agree_state.specs.Stmts.{Between, Keeping}
+use Rattle.c65_agree_between.specs.Stmts.{Between, Keeping}
 use Rattle.c65_agree_frame.specs.Ends.{IsPrimary, IsLeft, end_cost}
 use Rattle.c65_agree_leave.specs.Calls.{IsEntered, scene_behind, IsBehind}
 

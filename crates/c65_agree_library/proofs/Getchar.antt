@@ -2,7 +2,7 @@
 use Rattle.std.proofs.Common.{◌≡◌, ℕ, ◌+◌, ◌/◌, ◌%◌, ◌<◌, List, [], ◌∷◌, refl, ap, ◌∙◌, subst, arith}
 use Rattle.std.specs.Prelude.{Some, All, drop, max}
 use Rattle.std.proofs.lemmas.Int.{ints}
-use Rattle.std.proofs.lemmas.List.Elements.{All-nil, All-head}
+use Rattle.std.proofs.lemmas.List.Elements.{All-nil, All-head, All-tail}
 use Rattle.c65_base.specs.declared.library.Library.TheVariants.{Getchar}
 use Rattle.c65_meaning.specs.State.{Scene}
 use Rattle.c65_meaning.specs.Library.{got}
@@ -35,15 +35,16 @@ module _ (g : World) (a : Active) (pushed needs : ℕ) (c : Scene) (w : Placing)
         cost = omega arith;
         goes_on = refl;
         served = λ u meets bytes. record {
-          taken = still_taken g a pushed needs 0 c w banks t row placed r still u meets bytes c.input c.out (meets.input ∙ r.joins.input) (meets.output ∙ append_nothing t.output ∙ r.joins.output);
+          taken = still_taken g a pushed needs 0 c w banks t row placed r still u meets bytes c.input c.out r.joins.read (meets.input ∙ r.joins.input) (meets.output ∙ append_nothing t.output ∙ r.joins.output);
           value = value u meets.a meets.x;
-          gives = λ all. record { low = omega (arith, ints); high = omega (arith, ints) };
+          gives = record { low = omega (arith, ints); high = omega (arith, ints) };
         };
       }
     where
       value : (u : State) → u.regs.a ≡ 65535 % 256 → u.regs.x ≡ 65535 / 256 % 256 → ax_of u ≡ 65535
       value u low high = omega (arith, low, high)
   reads (b ∷ input) there e =
+      let all : All (λ v. v < 256) (b ∷ input) = subst (All (λ v. v < 256)) e r.joins.read in
       let row : Row = read_row (b ∷ input) t base in
       let still : IsStill 0 t row = record { sp = omega arith; writes = refl; ends = refl; bank = (silent_row (row_by (routines.Library Getchar) t) refl refl refl refl).bank; room = refl } in
       record {
@@ -53,9 +54,9 @@ module _ (g : World) (a : Active) (pushed needs : ℕ) (c : Scene) (w : Placing)
         cost = omega arith;
         goes_on = refl;
         served = λ u meets bytes. record {
-          taken = still_taken g a pushed needs 0 c w banks t row placed r still u meets bytes input c.out (meets.input ∙ ap (drop 1) there) (meets.output ∙ append_nothing t.output ∙ r.joins.output);
+          taken = still_taken g a pushed needs 0 c w banks t row placed r still u meets bytes input c.out (All-tail (λ v. v < 256) b input all) (meets.input ∙ ap (drop 1) there) (meets.output ∙ append_nothing t.output ∙ r.joins.output);
           value = value u meets.a meets.x;
-          gives = λ all. byte_fits b (All-head (λ v. v < 256) b input (subst (All (λ v. v < 256)) e all));
+          gives = byte_fits b (All-head (λ v. v < 256) b input all);
         };
       }
     where

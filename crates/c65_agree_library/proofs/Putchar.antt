@@ -45,9 +45,9 @@ module _ (g : World) (a : Active) (pushed needs : ℕ) (c : Scene) (w : Placing)
         cost = omega arith;
         goes_on = refl;
         served = λ u meets bytes. record {
-          taken = still_taken g a pushed needs 0 c w banks t row placed r still u meets bytes c.input (c.out ++ (residue 256 z ∷ [])) (meets.input ∙ r.joins.input) (meets.output ∙ ap (λ b. t.output ++ (b ∷ [])) same ∙ ap (λ o. o ++ (residue 256 z ∷ [])) r.joins.output);
+          taken = still_taken g a pushed needs 0 c w banks t row placed r still u meets bytes c.input (c.out ++ (residue 256 z ∷ [])) r.joins.read (meets.input ∙ r.joins.input) (meets.output ∙ ap (λ b. t.output ++ (b ∷ [])) same ∙ ap (λ o. o ++ (residue 256 z ∷ [])) r.joins.output);
           value = value u meets.a meets.x;
-          gives = λ all. byte_fits (residue 256 z) (residue_below 256 z (omega arith));
+          gives = byte_fits (residue 256 z) (residue_below 256 z (omega arith));
         };
       }
     where

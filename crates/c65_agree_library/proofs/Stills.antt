@@ -38,12 +38,14 @@ module _ (g : World) (a : Active) (pushed needs count : ℕ) (c : Scene) (w : Pl
   stacks : HasStacks g t
   stacks = ready_is_calm g a (pushed + count) needs c w k t r
 
-  text_joins : (input out : List ℕ) → Joins g a (with_text c input out) w k (shown t input out)
-  text_joins input out = record {
+  text_joins : (input out : List ℕ) → All (λ v. v < 256) input → Joins g a (with_text c input out) w k (shown t input out)
+  text_joins input out read = record {
     stands = r.joins.stands;
     bank = r.joins.bank;
     symbols = r.joins.symbols;
     fixed = record { own = r.joins.fixed.own; objects = r.joins.fixed.objects; once = r.joins.fixed.once };
+    sizes = r.joins.sizes;
+    sized = r.joins.sized;
     fresh = r.joins.fresh;
     homes = r.joins.homes;
     rests = λ b e. let x = r.joins.rests b e in record { block = x.block; is = x.is; place = x.place; size = x.size };
@@ -66,6 +68,7 @@ module _ (g : World) (a : Active) (pushed needs count : ℕ) (c : Scene) (w : Pl
     hard = r.joins.hard;
     frames = r.joins.frames;
     input = refl;
+    read = read;
     output = refl;
     ended = r.joins.ended;
     bytes = record { a = r.joins.bytes.a; x = r.joins.bytes.x; y = r.joins.bytes.y; zp = r.joins.bytes.zp; mem = r.joins.bytes.mem; pushed = r.joins.bytes.pushed; frames = r.joins.bytes.frames };
@@ -90,8 +93,8 @@ module _ (g : World) (a : Active) (pushed needs count : ℕ) (c : Scene) (w : Pl
     same n (inl low) = meets.mem n (inl (omega (arith, low, stacks.soft, h.room))) ∙ ap (λ ws. written t.mem ws n) h.writes
     same n (inr high) = meets.mem n (inr (inl high)) ∙ ap (λ ws. written t.mem ws n) h.writes
 
-    pub still_taken : (input out : List ℕ) → u.input ≡ input → u.output ≡ out → AreTaken g a pushed needs count c w k t (with_text c input out) k u
-    still_taken input out taken text =
+    pub still_taken : (input out : List ℕ) → All (λ v. v < 256) input → u.input ≡ input → u.output ≡ out → AreTaken g a pushed needs count c w k t (with_text c input out) k u
+    still_taken input out read taken text =
         let sp : sp_of u ≡ sp_of t + count = meets.sp ∙ h.sp in
         let scratch : OnlyScratch a.base (shown t input out) u = record {
           mem = λ n side. same n (above n side);
@@ -104,7 +107,7 @@ module _ (g : World) (a : Active) (pushed needs count : ℕ) (c : Scene) (w : Pl
           bytes = bytes;
         } in
         record {
-          ready = record { joins = scratch_changes g a (with_text c input out) w k (shown t input out) u placed (text_joins input out) scratch; sp = omega (arith, sp, r.sp); room = omega (arith, sp, r.room); none_pushed = meets.pushed ∙ r.none_pushed };
+          ready = record { joins = scratch_changes g a (with_text c input out) w k (shown t input out) u placed (text_joins input out read) scratch; sp = omega (arith, sp, r.sp); room = omega (arith, sp, r.room); none_pushed = meets.pushed ∙ r.none_pushed };
           sp = sp;
           frames = refl;
           next = refl;

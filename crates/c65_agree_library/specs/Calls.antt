@@ -1,5 +1,5 @@
 -- A call of a function of the library: how its arguments wait, and what it leaves (C90 7.9.6, 7.9.7, 7.11).
-use Rattle.std.specs.Prelude.{◌≡◌, ℕ, suc, ◌+◌, ◌*◌, ◌<◌, ◌⊎◌, List, [], ◌∷◌, Some, reverse, length, slice_get, All}
+use Rattle.std.specs.Prelude.{◌≡◌, ℕ, suc, ◌+◌, ◌*◌, ◌<◌, ◌⊎◌, List, [], ◌∷◌, Some, reverse, length, slice_get}
 use Rattle.c65_ints.specs.declared.types.IntType.TheVariants.{Int, UInt}
 use Rattle.c65_base.specs.declared.library.Library.{Library}
 use Rattle.c65_base.specs.declared.library.Library.TheVariants.{Memcpy, Memset, Strcpy, Strlen}
@@ -55,11 +55,11 @@ Gives Strcpy v = (size : ℕ) → Fits (Address size) v
 Gives Strlen v = Fits (Number UInt) v
 Gives f v = Fits (Number Int) v
 
--- Behind the call the arguments that waited are taken off, and the result is in AX; where the input is bytes, it is one of the function's type.
+-- Behind the call the arguments that waited are taken off, and the result is in AX and one of the function's type.
 pub record IsServed (g : World) (a : Active) (f : Library) (pushed needs count : ℕ) (c : Scene) (w : Placing) (k : Banks) (t : State) (v : Value) (c2 : Scene) (u : State) : Type 0 where
   pub taken : AreTaken g a pushed needs count c w k t c2 k u
   pub value : ValueIs w 65536 v (ax_of u)
-  pub gives : All (λ b. b < 256) c.input → Gives f v
+  pub gives : Gives f v
 
 -- ---- calls
 

@@ -85,7 +85,7 @@ module _ (g : World) (a : Active) (pushed needs : ℕ) (c : Scene) (w : Placing)
       after u l = record {
         taken = subst (λ z. AreTaken g a pushed needs 4 c w banks t (record c { store = z; input = c.input; out = c.out }) banks u) (sym h.target.store) l.taken;
         value = (to.0, to.1, l.value ∙ to.2);
-        gives = λ all size. tt;
+        gives = λ size. tt;
       }
 
 pub memcpy_is_followed : MemcpyIsFollowed

@@ -167,7 +167,7 @@ module _ (g : World) (a : Active) (pushed needs : ℕ) (c : Scene) (w : Placing)
       taken = subst (λ z. AreTaken g a pushed needs 2 c w banks t (record c { store = z; input = c.input; out = c.out }) banks u) (sym h.target.store)
           (puts_are_taken g a pushed needs 2 c w banks banks t u d h.target.block (At to.0) p size (λ i. h.source.cells (o + i)) placed r may only laid ((banks_follow a banks t u p size).1 to.0 r.joins.bank only) meets.sp);
       value = (to.0, to.1, value meets.a meets.x ∙ to.2);
-      gives = λ all size. tt;
+      gives = λ size. tt;
     }
       where
         value : u.regs.a ≡ target % 256 → u.regs.x ≡ target / 256 % 256 → ax_of u ≡ target

@@ -39,11 +39,11 @@ step_is u f callee types k args ws vs c h entry passed is body library =
     ∙ ap (λ o. unless_refused u (allowed u callee types args entry) (called u h types args entry o entry.library k vs c)) body ∙ ap (λ o. unless_refused u (allowed u callee types args entry) (called u h types args entry None o k vs c)) library
 
 -- the state behind it, where the call fits the function
-abbrev served_by : UnitTy → Library → FuncTy → List Ty → List Value → List Item → List Value → Scene → meaning.State
+abbrev pub served_by : UnitTy → Library → FuncTy → List Ty → List Value → List Item → List Value → Scene → meaning.State
 served_by u f entry types args k vs c = provided f (take (named_count entry.ty) args) (cells_behind u (named_count entry.ty) types args) k vs c
 
 -- A call that does not fit the function has no meaning, and any other is the function's.
-provided_or_not : (g : World) (f : Library) (callee : Ty) (types : List Ty) (entry : FuncTy) (k : List Item) (args ws vs : List Value) (c : Scene) (h n v : ℕ) (q : Spot) (t : State) (seen : Seen)
+pub provided_or_not : (g : World) (f : Library) (callee : Ty) (types : List Ty) (entry : FuncTy) (k : List Item) (args ws vs : List Value) (c : Scene) (h n v : ℕ) (q : Spot) (t : State) (seen : Seen)
     → taken types [] ws ≡ Some (args, Place h 0 ∷ vs) → slice_get (unit_in g).funcs h ≡ Some entry → entry.body ≡ None → entry.library ≡ Some f
     → IsCalm (setting_in g) t → t.output ≡ c.out → t.ended ≡ None → c.turns ≤ total_in g seen
     → (perform (program_in g) (Invoke callee types) k ws c ≡ served_by (unit_in g) f entry types args k vs c → Follows g n v (Running (Invoke callee types ∷ k) ws c) q t seen) → Follows g n v (Running (Invoke callee types ∷ k) ws c) q t seen

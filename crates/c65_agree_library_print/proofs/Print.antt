@@ -145,9 +145,9 @@ module _ (g : World) (a : Active) (pushed needs : ℕ) (c : Scene) (w : Placing)
     cost = omega (arith, far_is, taken_is);
     goes_on = refl;
     served = λ u meets bytes. record {
-      taken = still_taken g a pushed needs (length rest + 2) c w banks t row placed r still u meets bytes c.input (c.out ++ out) (meets.input ∙ r.joins.input) (meets.output ∙ ap (λ o. o ++ out) r.joins.output);
+      taken = still_taken g a pushed needs (length rest + 2) c w banks t row placed r still u meets bytes c.input (c.out ++ out) r.joins.read (meets.input ∙ r.joins.input) (meets.output ∙ ap (λ o. o ++ out) r.joins.output);
       value = value u meets.a meets.x ∙ sym (wrapped (length out)).0;
-      gives = λ all. (wrapped (length out)).1;
+      gives = (wrapped (length out)).1;
     };
   }
     where

@@ -192,9 +192,9 @@ module _ (g : World) (a : Active) (pushed needs : ℕ) (c : Scene) (w : Placing)
     cost = omega (arith, length-append (range_of (same + 1) (word_at t.mem (sp_of t))) (range_of (same + 1) (ax_of t)), range_length (same + 1) (word_at t.mem (sp_of t)), range_length (same + 1) (ax_of t), count_is);
     goes_on = refl;
     served = λ u meets bytes. record {
-      taken = still_taken g a pushed needs 2 c w banks t row placed r still u meets bytes c.input c.out (meets.input ∙ r.joins.input) (meets.output ∙ append_nothing t.output ∙ r.joins.output);
+      taken = still_taken g a pushed needs 2 c w banks t row placed r still u meets bytes c.input c.out r.joins.read (meets.input ∙ r.joins.input) (meets.output ∙ append_nothing t.output ∙ r.joins.output);
       value = value u meets.a meets.x ∙ difference_is one other one_below other_below ∙ ap (residue 65536) (sym result_is);
-      gives = λ all. subst (InRange Int) (sym result_is) (difference_fits one other one_below other_below);
+      gives = subst (InRange Int) (sym result_is) (difference_fits one other one_below other_below);
     };
   }
     where

@@ -43,9 +43,9 @@ module _ (g : World) (a : Active) (pushed needs : ℕ) (c : Scene) (w : Placing)
     cost = omega (arith, range_length (text_length (ax_of t) t.mem + 1) (ax_of t), count_is);
     goes_on = refl;
     served = λ u meets bytes. record {
-      taken = still_taken g a pushed needs 0 c w banks t length_row placed r length_still u meets bytes c.input c.out (meets.input ∙ r.joins.input) (meets.output ∙ append_nothing t.output ∙ r.joins.output);
+      taken = still_taken g a pushed needs 0 c w banks t length_row placed r length_still u meets bytes c.input c.out r.joins.read (meets.input ∙ r.joins.input) (meets.output ∙ append_nothing t.output ∙ r.joins.output);
       value = value u meets.a meets.x;
-      gives = λ all. record { low = omega (arith, ints); high = omega (arith, ints, h.short) };
+      gives = record { low = omega (arith, ints); high = omega (arith, ints, h.short) };
     };
   }
     where
@@ -70,10 +70,10 @@ module _ (g : World) (a : Active) (pushed needs : ℕ) (c : Scene) (w : Placing)
     cost = omega (arith, range_length (text_length (ax_of t) t.mem + 1) (ax_of t), count_is);
     goes_on = refl;
     served = λ u meets bytes. record {
-      taken = still_taken g a pushed needs 0 c w banks t line_row placed r line_still u meets bytes c.input (c.out ++ (text ++ 10 ∷ [])) (meets.input ∙ r.joins.input)
+      taken = still_taken g a pushed needs 0 c w banks t line_row placed r line_still u meets bytes c.input (c.out ++ (text ++ 10 ∷ [])) r.joins.read (meets.input ∙ r.joins.input)
           (meets.output ∙ ap (λ xs. t.output ++ (xs ++ 10 ∷ [])) line_is ∙ ap (λ o. o ++ (text ++ 10 ∷ [])) r.joins.output);
       value = value u meets.a meets.x;
-      gives = λ all. byte_fits 0 (omega arith);
+      gives = byte_fits 0 (omega arith);
     };
   }
     where

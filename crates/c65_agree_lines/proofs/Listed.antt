@@ -7,6 +7,7 @@ use Rattle.c65_csem.specs.Statements.{cases_of}
 use Rattle.c65_mach.specs.declared.rows.Op.TheVariants.{Jmp, Sta, Stx}
 use Rattle.c65_code.specs.declared.line.Line.{Line}
 use Rattle.c65_code.specs.declared.line.Line.TheVariants.{Label}
+use Rattle.c65_code.specs.declared.parts.RegSet.{RegSet}
 use Rattle.c65_code.specs.Segments.{Drafted}
 use Rattle.c65_genframe.specs.Frames.{Framed, type_bytes}
 use Rattle.c65_genwide.specs.Wide.{width_of}
@@ -33,9 +34,9 @@ use Rattle.c65_genstmt.specs.declared.objects.Spot.TheVariants.{Bank, Soft, Data
 use Rattle.c65_genstmt.specs.Jumps.{following, with_value, with_test}
 use Rattle.c65_genstmt.specs.Objects.{spot_of, object_bytes, point_code, stored_code, with_kept, with_zeros}
 use Rattle.c65_genstmt.specs.Stmts.{is_empty, case_behind, ways, default_way, returns_last, with_label, with_jump, with_way, two_given, three_given, with_maybe, with_effects, with_guard, with_cases, with_choice, with_stmt, with_stmts, with_last, with_lasts}
-use Rattle.c65_genstmt.specs.Functions.{body_room, main_code, no_lines}
+use Rattle.c65_genstmt.specs.Functions.{body_room, main_code, no_lines, with_function}
 use Rattle.c65_agree_lines.specs.Lists.{kept_code, kept_uses, zeros_code, zeros_uses, maybe_code, maybe_uses, effects_code, effects_uses, guard_code, guard_uses, head_code, head_uses, way_code, stmt_code, stmt_uses, stmts_code, stmts_uses, last_code, lasts_code}
-use Rattle.c65_agree_lines.specs.Laws.{Gains, StatementsAreListed, FunctionsAreListed}
+use Rattle.c65_agree_lines.specs.Laws.{Gains, StatementsAreListed, FunctionsAreListed, FunctionsGiveTheirResults}
 
 append_again : (xs ys zs : List Line) → (xs ++ ys) ++ zs ≡ xs ++ (ys ++ zs)
 append_again [] ys zs = refl
@@ -48,26 +49,26 @@ append_nothing (x ∷ xs) = ap (λ l. x ∷ l) (append_nothing xs)
 -- ---- gains
 
 nothing : (d : Drafted) → Gains d d [] 0
-nothing d = record { lines_are = sym (append_nothing d.lines); labels_are = omega arith }
+nothing d = record { lines_are = sym (append_nothing d.lines); labels_are = omega arith; out_is = refl }
 
 -- one gain behind another
 behind_it : (d e f : Drafted) (first second : List Line) (m n : ℕ) → Gains d e first m → Gains e f second n → Gains d f (first ++ second) (m + n)
-behind_it d e f first second m n g h = record { lines_are = h.lines_are ∙ ap (λ l. l ++ second) g.lines_are ∙ append_again d.lines first second; labels_are = omega (arith, g.labels_are, h.labels_are) }
+behind_it d e f first second m n g h = record { lines_are = h.lines_are ∙ ap (λ l. l ++ second) g.lines_are ∙ append_again d.lines first second; labels_are = omega (arith, g.labels_are, h.labels_are); out_is = h.out_is ∙ g.out_is }
 
 -- the same by other numbers of labels
 counted : (d e : Drafted) (code : List Line) (m n : ℕ) → Gains d e code m → m ≡ n → Gains d e code n
-counted d e code m n g h = record { lines_are = g.lines_are; labels_are = omega (arith, g.labels_are, h) }
+counted d e code m n g h = record { lines_are = g.lines_are; labels_are = omega (arith, g.labels_are, h); out_is = g.out_is }
 
 -- some labels are given before
-given : (d1 d e : Drafted) (code : List Line) (k n m : ℕ) → d1.lines ≡ d.lines → d1.labels ≡ d.labels + k → k + n ≡ m → Gains d1 e code n → Gains d e code m
-given d1 d e code k n m same more sum g = record { lines_are = g.lines_are ∙ ap (λ l. l ++ code) same; labels_are = omega (arith, g.labels_are, more, sum) }
+given : (d1 d e : Drafted) (code : List Line) (k n m : ℕ) → d1.lines ≡ d.lines → d1.out ≡ d.out → d1.labels ≡ d.labels + k → k + n ≡ m → Gains d1 e code n → Gains d e code m
+given d1 d e code k n m same out more sum g = record { lines_are = g.lines_are ∙ ap (λ l. l ++ code) same; labels_are = omega (arith, g.labels_are, more, sum); out_is = g.out_is ∙ out }
 
 -- lines alone
 plain : (d : Drafted) (lines : List Line) → Gains d (with_lines d lines) lines 0
-plain d lines = record { lines_are = refl; labels_are = omega arith }
+plain d lines = record { lines_are = refl; labels_are = omega arith; out_is = refl }
 
 more_lines : (d : Drafted) (lines : List Line) (n : ℕ) → Gains d (grown d lines n) lines n
-more_lines d lines n = record { lines_are = refl; labels_are = refl }
+more_lines d lines n = record { lines_are = refl; labels_are = refl; out_is = refl }
 
 -- ---- parts
 
@@ -78,17 +79,17 @@ kept true f spot e d =
     let n = type_bytes f (bare e) % 65536 in
     let d1 = with_lines d pointed in
     let d2 = with_lines d1 (point_code ptr2 spot) in
-    let all = behind_it d d1 (with_kept true f spot e d) pointed (point_code ptr2 spot ++ blocks.copy_code n d.labels) 0 (0 + block_labels n) (plain d pointed) (behind_it d1 d2 (with_kept true f spot e d) (point_code ptr2 spot) (blocks.copy_code n d.labels) 0 (block_labels n) (plain d1 (point_code ptr2 spot)) (record { lines_are = refl; labels_are = refl })) in
+    let all = behind_it d d1 (with_kept true f spot e d) pointed (point_code ptr2 spot ++ blocks.copy_code n d.labels) 0 (0 + block_labels n) (plain d pointed) (behind_it d1 d2 (with_kept true f spot e d) (point_code ptr2 spot) (blocks.copy_code n d.labels) 0 (block_labels n) (plain d1 (point_code ptr2 spot)) (record { lines_are = refl; labels_are = refl; out_is = refl })) in
     counted d (with_kept true f spot e d) (kept_code true f spot e d.labels) (0 + (0 + block_labels n)) (block_labels n) all (omega arith)
 
 zeros : (spot : Spot) (bytes : ℕ) (d : Drafted) → Gains d (with_zeros spot bytes d) (zeros_code spot bytes d.labels) (zeros_uses spot bytes)
 zeros (Bank bank) bytes d = plain d (pointers.clear_code bank bytes)
 zeros (Soft at) bytes d =
     let d1 = with_lines d (near_code ptr1 at) in
-    counted d (with_zeros (Soft at) bytes d) (zeros_code (Soft at) bytes d.labels) (0 + block_labels (bytes % 65536)) (block_labels (bytes % 65536)) (behind_it d d1 (with_zeros (Soft at) bytes d) (near_code ptr1 at) (blocks.clear_code (bytes % 65536) d.labels) 0 (block_labels (bytes % 65536)) (plain d (near_code ptr1 at)) (record { lines_are = refl; labels_are = refl })) (omega arith)
+    counted d (with_zeros (Soft at) bytes d) (zeros_code (Soft at) bytes d.labels) (0 + block_labels (bytes % 65536)) (block_labels (bytes % 65536)) (behind_it d d1 (with_zeros (Soft at) bytes d) (near_code ptr1 at) (blocks.clear_code (bytes % 65536) d.labels) 0 (block_labels (bytes % 65536)) (plain d (near_code ptr1 at)) (record { lines_are = refl; labels_are = refl; out_is = refl })) (omega arith)
 zeros (Data sym at) bytes d =
     let d1 = with_lines d (symbol_code ptr1 sym at) in
-    counted d (with_zeros (Data sym at) bytes d) (zeros_code (Data sym at) bytes d.labels) (0 + block_labels (bytes % 65536)) (block_labels (bytes % 65536)) (behind_it d d1 (with_zeros (Data sym at) bytes d) (symbol_code ptr1 sym at) (blocks.clear_code (bytes % 65536) d.labels) 0 (block_labels (bytes % 65536)) (plain d (symbol_code ptr1 sym at)) (record { lines_are = refl; labels_are = refl })) (omega arith)
+    counted d (with_zeros (Data sym at) bytes d) (zeros_code (Data sym at) bytes d.labels) (0 + block_labels (bytes % 65536)) (block_labels (bytes % 65536)) (behind_it d d1 (with_zeros (Data sym at) bytes d) (symbol_code ptr1 sym at) (blocks.clear_code (bytes % 65536) d.labels) 0 (block_labels (bytes % 65536)) (plain d (symbol_code ptr1 sym at)) (record { lines_are = refl; labels_are = refl; out_is = refl })) (omega arith)
 
 maybe : (f : Framed) (e : MaybeTyped) (d : Drafted) → Gains d (with_maybe f e d) (maybe_code f e d.labels) (maybe_uses e)
 maybe f absent d = nothing d
@@ -111,9 +112,9 @@ head f e a d =
     let choice = choice_code (width_of (kind_in e)) way (d.labels + 1 + 1) g.labels (cases_of a) in
     let given_labels = choice_labels (width_of (kind_in e)) (cases_of a) in
     let h = with_cases (width_of (kind_in e)) way (d.labels + 1 + 1) (cases_of a) g in
-    let last = behind_it g h (with_jump way h) choice (jump Jmp way ∷ []) given_labels 0 (record { lines_are = refl; labels_are = refl }) (plain h (jump Jmp way ∷ [])) in
+    let last = behind_it g h (with_jump way h) choice (jump Jmp way ∷ []) given_labels 0 (record { lines_are = refl; labels_are = refl; out_is = refl }) (plain h (jump Jmp way ∷ [])) in
     let all = behind_it d1 g (with_jump way h) (expr_code f 0 d1.labels Value e) (choice ++ jump Jmp way ∷ []) (uses None e) (given_labels + 0) (more_lines d1 (expr_code f 0 d1.labels Value e) (uses None e)) last in
-    given d1 d (with_jump way h) (head_code f e a d.labels) (2 + k) (uses None e + (given_labels + 0)) (head_uses e a) refl (omega arith) (omega arith) all
+    given d1 d (with_jump way h) (head_code f e a d.labels) (2 + k) (uses None e + (given_labels + 0)) (head_uses e a) refl refl (omega arith) (omega arith) all
 
 -- the jump over what stands between
 way : (at : Bool) (l : ℕ) (d : Drafted) → Gains d (with_way at l d) (way_code at l) 0
@@ -159,13 +160,13 @@ module _ (f : Framed) (w : Ways) (l : ℕ) (c n : MaybeTyped) (a : Stmt) where
       let one : Gains t1 t2 code (stmt_uses f a) = subst (λ y. Gains t1 t2 (stmt_code f inner l a y) (stmt_uses f a)) tested.labels_are (deep inner t1) in
       let count : t2.labels ≡ start + stmt_uses f a = one.labels_are ∙ ap (λ y. y + stmt_uses f a) tested.labels_are in
       let step : Gains t3 t4 next (effects_uses n) = subst (λ y. Gains t3 t4 (effects_code f n y) (effects_uses n)) count (effects f n t3) in
-      let turn : Gains t4 t5 last 0 = record { lines_are = append_again t4.lines (jump Jmp g.labels ∷ []) (Label (g.labels + 1 + 1) ∷ []); labels_are = omega arith } in
+      let turn : Gains t4 t5 last 0 = record { lines_are = append_again t4.lines (jump Jmp g.labels ∷ []) (Label (g.labels + 1 + 1) ∷ []); labels_are = omega arith; out_is = refl } in
       let stepped = behind_it t3 t4 t5 next last (effects_uses n) 0 step turn in
       let onward = behind_it t2 t3 t5 (Label (g.labels + 1) ∷ []) (next ++ last) 0 (effects_uses n + 0) (plain t2 (Label (g.labels + 1) ∷ [])) stepped in
       let body = behind_it t1 t2 t5 code (Label (g.labels + 1) ∷ (next ++ last)) (stmt_uses f a) (0 + (effects_uses n + 0)) one onward in
       let guarded = behind_it t0 t1 t5 test (code ++ Label (g.labels + 1) ∷ (next ++ last)) (guard_uses c) (stmt_uses f a + (0 + (effects_uses n + 0))) tested body in
       let all = behind_it d1 t0 t5 (Label g.labels ∷ []) (test ++ (code ++ Label (g.labels + 1) ∷ (next ++ last))) 0 (guard_uses c + (stmt_uses f a + (0 + (effects_uses n + 0)))) (plain d1 (Label g.labels ∷ [])) guarded in
-      given d1 g t5 (loop_code g.labels) 3 (0 + (guard_uses c + (stmt_uses f a + (0 + (effects_uses n + 0))))) loop_uses refl (omega arith) (omega arith) all
+      given d1 g t5 (loop_code g.labels) 3 (0 + (guard_uses c + (stmt_uses f a + (0 + (effects_uses n + 0))))) loop_uses refl refl (omega arith) (omega arith) all
 
 -- ---- statements
 
@@ -201,7 +202,7 @@ mutual
       let rest = behind_it t2 t2w t5 over (Label d.labels ∷ (second ++ last)) 0 (0 + (stmt_uses f b + 0)) turn here in
       let body = behind_it t1 t2 t5 first (over ++ Label d.labels ∷ (second ++ last)) (stmt_uses f a) (0 + (0 + (stmt_uses f b + 0))) one rest in
       let all = behind_it d1 t1 t5 test (first ++ (over ++ Label d.labels ∷ (second ++ last))) (uses (Some false) e) (stmt_uses f a + (0 + (0 + (stmt_uses f b + 0)))) (more_lines d1 test (uses (Some false) e)) body in
-      given d1 d t5 (stmt_code f w l (if_stmt e a b) d.labels) 2 (uses (Some false) e + (stmt_uses f a + (0 + (0 + (stmt_uses f b + 0))))) (stmt_uses f (if_stmt e a b)) refl (omega arith) (omega arith) all
+      given d1 d t5 (stmt_code f w l (if_stmt e a b) d.labels) 2 (uses (Some false) e + (stmt_uses f a + (0 + (0 + (stmt_uses f b + 0))))) (stmt_uses f (if_stmt e a b)) refl refl (omega arith) (omega arith) all
   stmt_gains f w l (while e a) d =
       let d1 = two_given d in
       let t0 = with_label d.labels d1 in
@@ -212,11 +213,11 @@ mutual
       let test = expr_code f 0 d1.labels (Test (d.labels + 1) false) e in
       let code = stmt_code f inner l a t1.labels in
       let last = jump Jmp d.labels ∷ Label (d.labels + 1) ∷ [] in
-      let turn : Gains t2 t3 last 0 = record { lines_are = append_again t2.lines (jump Jmp d.labels ∷ []) (Label (d.labels + 1) ∷ []); labels_are = omega arith } in
+      let turn : Gains t2 t3 last 0 = record { lines_are = append_again t2.lines (jump Jmp d.labels ∷ []) (Label (d.labels + 1) ∷ []); labels_are = omega arith; out_is = refl } in
       let body = behind_it t1 t2 t3 code last (stmt_uses f a) 0 (stmt_gains f inner l a t1) turn in
       let tested = behind_it t0 t1 t3 test (code ++ last) (uses (Some false) e) (stmt_uses f a + 0) (more_lines t0 test (uses (Some false) e)) body in
       let all = behind_it d1 t0 t3 (Label d.labels ∷ []) (test ++ (code ++ last)) 0 (uses (Some false) e + (stmt_uses f a + 0)) (plain d1 (Label d.labels ∷ [])) tested in
-      given d1 d t3 (stmt_code f w l (while e a) d.labels) 2 (0 + (uses (Some false) e + (stmt_uses f a + 0))) (stmt_uses f (while e a)) refl (omega arith) (omega arith) all
+      given d1 d t3 (stmt_code f w l (while e a) d.labels) 2 (0 + (uses (Some false) e + (stmt_uses f a + 0))) (stmt_uses f (while e a)) refl refl (omega arith) (omega arith) all
   stmt_gains f w l (do_while a e) d =
       let d1 = three_given d in
       let t0 = with_label d.labels d1 in
@@ -234,7 +235,7 @@ mutual
       let onward = behind_it t1 t2 t4 (Label (d.labels + 1) ∷ []) (test ++ last) 0 (uses (Some true) e + 0) (plain t1 (Label (d.labels + 1) ∷ [])) bottom in
       let body = behind_it t0 t1 t4 code (Label (d.labels + 1) ∷ (test ++ last)) (stmt_uses f a) (0 + (uses (Some true) e + 0)) one onward in
       let all = behind_it d1 t0 t4 (Label d.labels ∷ []) (code ++ Label (d.labels + 1) ∷ (test ++ last)) 0 (stmt_uses f a + (0 + (uses (Some true) e + 0))) (plain d1 (Label d.labels ∷ [])) body in
-      given d1 d t4 (stmt_code f w l (do_while a e) d.labels) 3 (0 + (stmt_uses f a + (0 + (uses (Some true) e + 0)))) (stmt_uses f (do_while a e)) refl (omega arith) (omega arith) all
+      given d1 d t4 (stmt_code f w l (do_while a e) d.labels) 3 (0 + (stmt_uses f a + (0 + (uses (Some true) e + 0)))) (stmt_uses f (do_while a e)) refl refl (omega arith) (omega arith) all
   stmt_gains f w l (for_loop i c n a) d =
       let g = with_effects f i d in
       let first = effects f i d in
@@ -306,18 +307,26 @@ mutual
       let rest : Gains t (with_lasts f w (case_behind l a) more t) (lasts_code f w (case_behind l a) more (d.labels + stmt_uses f a)) (stmts_uses f more) = subst (λ y. Gains t (with_lasts f w (case_behind l a) more t) (lasts_code f w (case_behind l a) more y) (stmts_uses f more)) one.labels_are (lasts_gain f w (case_behind l a) (and_stmts b ss) t) in
       behind_it d t (with_lasts f w (case_behind l a) more t) (stmt_code f w l a d.labels) (lasts_code f w (case_behind l a) more (d.labels + stmt_uses f a)) (stmt_uses f a) (stmts_uses f more) one rest
 
+module _ (f : Framed) (is_main : Bool) (body : Stmt) (out : RegSet) where
+  function_gains : Gains (no_lines out) (with_function f is_main (Some body) (no_lines out)) (entry_code f ++ (last_code f (ways 0 0 0) 0 body (0 + 1 + body_room (Some body)) ++ (main_code (is_main && not (returns_last body)) ++ Label 0 ∷ end_code f))) (0 + 1 + body_room (Some body) + stmt_uses f body)
+  function_gains =
+      let d = no_lines out in
+      let t0 = with_labels (body_room (Some body)) (with_labels 1 d) in
+      let t1 = with_lines t0 (entry_code f) in
+      let t2 = with_last f (ways 0 0 0) 0 body t1 in
+      let main_end = main_code (is_main && not (returns_last body)) in
+      let t3 = with_lines t2 main_end in
+      let t4 = with_label 0 t3 in
+      let t5 = with_lines t4 (end_code f) in
+      let code = last_code f (ways 0 0 0) 0 body t1.labels in
+      let last = behind_it t3 t4 t5 (Label 0 ∷ []) (end_code f) 0 0 (plain t3 (Label 0 ∷ [])) (plain t4 (end_code f)) in
+      let main = behind_it t2 t3 t5 main_end (Label 0 ∷ end_code f) 0 (0 + 0) (plain t2 main_end) last in
+      let all = behind_it t1 t2 t5 code (main_end ++ Label 0 ∷ end_code f) (stmt_uses f body) (0 + (0 + 0)) (last_gains f (ways 0 0 0) 0 body t1) main in
+      let listed = behind_it t0 t1 t5 (entry_code f) (code ++ (main_end ++ Label 0 ∷ end_code f)) 0 (stmt_uses f body + (0 + (0 + 0))) (plain t0 (entry_code f)) all in
+      given t0 d t5 (entry_code f ++ (code ++ (main_end ++ Label 0 ∷ end_code f))) (1 + body_room (Some body)) (0 + (stmt_uses f body + (0 + (0 + 0)))) (0 + 1 + body_room (Some body) + stmt_uses f body) refl refl (omega arith) (omega arith) listed
+
 pub functions_are_listed : FunctionsAreListed
-functions_are_listed f is_main body out =
-    let d = no_lines out in
-    let t0 = with_labels (body_room (Some body)) (with_labels 1 d) in
-    let t1 = with_lines t0 (entry_code f) in
-    let t2 = with_last f (ways 0 0 0) 0 body t1 in
-    let main_end = main_code (is_main && not (returns_last body)) in
-    let t3 = with_lines t2 main_end in
-    let t4 = with_label 0 t3 in
-    let t5 = with_lines t4 (end_code f) in
-    let code = last_code f (ways 0 0 0) 0 body t1.labels in
-    let last = behind_it t3 t4 t5 (Label 0 ∷ []) (end_code f) 0 0 (plain t3 (Label 0 ∷ [])) (plain t4 (end_code f)) in
-    let main = behind_it t2 t3 t5 main_end (Label 0 ∷ end_code f) 0 (0 + 0) (plain t2 main_end) last in
-    let all = behind_it t1 t2 t5 code (main_end ++ Label 0 ∷ end_code f) (stmt_uses f body) (0 + (0 + 0)) (last_gains f (ways 0 0 0) 0 body t1) main in
-    (behind_it t0 t1 t5 (entry_code f) (code ++ (main_end ++ Label 0 ∷ end_code f)) 0 (stmt_uses f body + (0 + (0 + 0))) (plain t0 (entry_code f)) all).lines_are
+functions_are_listed f is_main body out = (function_gains f is_main body out).lines_are
+
+pub functions_give_their_results : FunctionsGiveTheirResults
+functions_give_their_results f is_main body out = (function_gains f is_main body out).out_is

@@ -16,10 +16,11 @@ use Rattle.c65_agree_state.specs.World.{HasAt, IsPlaced}
 use Rattle.c65_agree_lines.specs.Lists.{stmt_code, stmt_uses, last_code}
 use Rattle.c65_agree_lines.specs.Turns.{IsTurn, turns_of, stmt_calls}
 
--- a draft gains these lines and so many labels
+-- a draft gains these lines and so many labels, and gives what it gave
 pub record Gains (d e : Drafted) (lines : List Line) (n : ℕ) : Type 0 where
   pub lines_are : e.lines ≡ d.lines ++ lines
   pub labels_are : e.labels ≡ d.labels + n
+  pub out_is : e.out ≡ d.out
 
 abbrev pub StatementsAreListed : Type 0
 StatementsAreListed = (f : Framed) (w : Ways) (l : ℕ) (s : Stmt) (d : Drafted) → Gains d (with_stmt f w l s d) (stmt_code f w l s d.labels) (stmt_uses f s)
@@ -28,6 +29,10 @@ StatementsAreListed = (f : Framed) (w : Ways) (l : ℕ) (s : Stmt) (d : Drafted)
 abbrev pub FunctionsAreListed : Type 0
 FunctionsAreListed = (f : Framed) (is_main : Bool) (body : Stmt) (out : RegSet)
     → (with_function f is_main (Some body) (no_lines out)).lines ≡ entry_code f ++ (last_code f (ways 0 0 0) 0 body (0 + 1 + body_room (Some body)) ++ (main_code (is_main && not (returns_last body)) ++ Label 0 ∷ end_code f))
+
+-- whatever its body, it gives what it was begun with
+abbrev pub FunctionsGiveTheirResults : Type 0
+FunctionsGiveTheirResults = (f : Framed) (is_main : Bool) (body : Stmt) (out : RegSet) → (with_function f is_main (Some body) (no_lines out)).out ≡ out
 
 -- ---- lines that stand in a function
 

@@ -1,5 +1,5 @@
 // Laws of lists of lines, each the contract of a function that does nothing.
-ghost use Rattle.c65_agree_lines.specs.Laws.{AllStand, FunctionsAreListed, LastTurnsStand, PartsStand, SegmentsArePlaced, StatementsAreListed, TurnsAreCounted, TurnsStand};
+ghost use Rattle.c65_agree_lines.specs.Laws.{AllStand, FunctionsAreListed, FunctionsGiveTheirResults, LastTurnsStand, PartsStand, SegmentsArePlaced, StatementsAreListed, TurnsAreCounted, TurnsStand};
 
 /// A draft gains the lines of a statement.
 pub fn statements_are_listed()
@@ -9,6 +9,11 @@ pub fn statements_are_listed()
 /// The lines of a function by its parts.
 pub fn functions_are_listed()
     ensures { FunctionsAreListed }
+{}
+
+/// What a function gives stays as it is through its lines.
+pub fn functions_give_their_results()
+    ensures { FunctionsGiveTheirResults }
 {}
 
 /// The parts of lines stand one behind another.

@@ -28,7 +28,8 @@ use Rattle.c65_genload.specs.declared.places.Access.TheVariants as access
 use Rattle.c65_genload.specs.declared.places.Place.{Place}
 use Rattle.c65_genload.specs.Places.{extent_of}
 use Rattle.c65_genload.specs.Loads.{bytes_code, load_code}
-use Rattle.c65_agree_store.specs.Stands.{Spot, At, Banked, Placing, Banks, ValueIs, IsAt, byte_in, beyond}
+use Rattle.c65_genexpr.specs.Operating.{is_signed_char}
+use Rattle.c65_agree_store.specs.Stands.{Spot, At, Banked, Placing, Banks, ValueIs, IsAt, byte_in, beyond, stored_at}
 use Rattle.c65_agree_store.specs.Laws.{number_in}
 use Rattle.c65_agree_state.specs.World.{World, Active, place_in}
 use Rattle.c65_agree_state.specs.Follows.{Follows}
@@ -37,12 +38,12 @@ use Rattle.c65_agree_state.proofs.Followed.{follows_weaken, steps_earn, ready_is
 use Rattle.c65_agree_state.proofs.Nodes.{ready_stays}
 use Rattle.c65_agree_state.proofs.Parts.{kept_goes_on}
 use Rattle.c65_agree_numbers.specs.Words.{signed_byte, narrowed}
-use Rattle.c65_agree_places.specs.Places.{spot_in, IsReached, stored_at}
+use Rattle.c65_agree_places.specs.Places.{spot_in, IsReached}
 use Rattle.c65_agree_places.proofs.Held.{held_bytes_are_open, numbers_are_there, pointers_are_there}
 use Rattle.c65_agree_rows.specs.Rows.{SignedByte, IsWidened}
 use Rattle.c65_agree_rows.specs.Laws.{IsKeptWith}
 use Rattle.c65_agree_rows.proofs.Quiet.{nothing_follows}
-use Rattle.c65_agree_rows.proofs.Loads.{widenings_run}
+use Rattle.c65_agree_rows.proofs.Loads.{LeavesSecond, widenings_run}
 use Rattle.c65_agree_put.specs.Laws.{IsScalar}
 use Rattle.c65_agree_assign.specs.Places.{kind_in}
 use Rattle.c65_agree_frame.specs.Leads.{Leads}
@@ -52,19 +53,19 @@ use Rattle.c65_agree_load.specs.Loads.{CanLoad, IsNear, IsLoaded, IsKeptThere, I
 use Rattle.c65_agree_load.specs.Laws.{FetchesAreFollowed}
 use Rattle.c65_agree_load.proofs.Kept.{runs_lead, is_on, kept_later}
 use Rattle.c65_agree_load.proofs.Fitted.{byte_stands, scalars_fit}
-use Rattle.c65_agree_load.proofs.Loads.{bytes_are_loaded}
+use Rattle.c65_agree_load.proofs.Loads.{IsLightAt, bytes_are_light, bytes_are_loaded}
 
 -- ---- what is read
 
 -- a value that is read lies in a live block
-record IsRead (f : Shape) (s : Store) (b o : ℕ) (v : Value) : Type 0 where
-  block : Block
-  is : s b ≡ Some block
-  live : block.live ≡ true
-  fits : o + size_in f ≤ block.holds
-  cells : read_cells f block.cells o ≡ Ok v
+pub record IsRead (f : Shape) (s : Store) (b o : ℕ) (v : Value) : Type 0 where
+  pub block : Block
+  pub is : s b ≡ Some block
+  pub live : block.live ≡ true
+  pub fits : o + size_in f ≤ block.holds
+  pub cells : read_cells f block.cells o ≡ Ok v
 
-is_read : (f : Shape) (s : Store) (b o : ℕ) (v : Value) → read f s b o ≡ Ok v → IsRead f s b o v
+pub is_read : (f : Shape) (s : Store) (b o : ℕ) (v : Value) → read f s b o ≡ Ok v → IsRead f s b o v
 is_read f s b o v e = go (s b) refl e
   where
     go : (x : Option Block) → s b ≡ x → (values.reached x o (size_in f) >>= λ y. read_cells f y.cells o) ≡ Ok v → IsRead f s b o v
@@ -97,11 +98,11 @@ signed_alike m n e = ap (λ x. if nat_lt 127 x then x + 65280 else x) e
 
 module _ (g : World) (a : Active) (pushed needs : ℕ) (c : Scene) (w : Placing) (k : Banks) (t : State) (placed : IsPlacement g.code g.place) (r : Ready g a pushed needs c w k t) (q : Spot) where
   -- the number's bytes
-  abbrev bytes_there : IntType → ℕ
+  abbrev pub bytes_there : IntType → ℕ
   bytes_there kind = number_in (stored_at t q) (bytes_of kind) 0
 
   -- the register of the type has the number, brought into its range
-  abbrev Narrowed : IntType → State → State → Type 0
+  abbrev pub Narrowed : IntType → State → State → Type 0
   Narrowed kind u v = Kept g a c w k u c w k v × (primary_of (width_of kind) v ≡ narrowed kind (bytes_there kind))
 
   none_narrowed : (kind : IntType) (u : State) → Kept g a c w k t c w k u → primary_of (width_of kind) u ≡ narrowed kind (bytes_there kind) → Leads g a [] 256 u (Narrowed kind u)
@@ -110,7 +111,13 @@ module _ (g : World) (a : Active) (pushed needs : ℕ) (c : Scene) (w : Placing)
       itself : Kept g a c w k u c w k u
       itself = record { joins = kept.joins; sp = refl; frames = refl; next = omega arith; bounds = λ b lt. refl; grows = λ b q e. e; kept = λ n le f. (refl, f); banks = λ d i lt. refl; own_bank = λ i le. refl; none_pushed = kept.none_pushed }
 
-  narrow_leads : (kind : IntType) (u : State) → Kept g a c w k t c w k u → IsLoaded (extent_of kind) q t u → Leads g a (narrow_code kind) 256 u (Narrowed kind u)
+  none_light : (kind : IntType) (u : State) → Kept g a c w k t c w k u → primary_of (width_of kind) u ≡ narrowed kind (bytes_there kind) → Leads g a [] 256 u (λ v. Narrowed kind u v × LeavesSecond u v)
+  none_light kind u kept value =
+      leads_as g a [] 0 256 u (λ v. v ≡ u) (λ v. Narrowed kind u v × LeavesSecond u v) (omega arith)
+      (λ v e. rw e ((record { joins = kept.joins; sp = refl; frames = refl; next = omega arith; bounds = λ b lt. refl; grows = λ b q e. e; kept = λ n le f. (refl, f); banks = λ d i lt. refl; own_bank = λ i le. refl; none_pushed = kept.none_pushed }, value), record { low = refl; high = refl }))
+      (none_leads g a u (λ v. v ≡ u) refl)
+
+  pub narrow_leads : (kind : IntType) (u : State) → Kept g a c w k t c w k u → IsLoaded (extent_of kind) q t u → Leads g a (narrow_code kind) 256 u (Narrowed kind u)
   narrow_leads I.UChar u kept loaded =
       let ready = ready_stays g a pushed needs needs c c w w k k t u (omega arith) r kept in
       let regs : Regs = apply false Ldx 0 u.regs in
@@ -128,9 +135,25 @@ module _ (g : World) (a : Active) (pushed needs : ℕ) (c : Scene) (w : Placing)
   narrow_leads I.Long u kept loaded = none_narrowed I.Long u kept loaded
   narrow_leads I.ULong u kept loaded = none_narrowed I.ULong u kept loaded
 
+  -- any but a signed character, and ptr2 stays
+  pub narrow_is_light : (kind : IntType) (u : State) → is_signed_char kind ≡ false → Kept g a c w k t c w k u → IsLoaded (extent_of kind) q t u → Leads g a (narrow_code kind) 256 u (λ v. Narrowed kind u v × LeavesSecond u v)
+  narrow_is_light I.SChar u light kept loaded = absurd (cc)
+  narrow_is_light I.UChar u light kept loaded =
+      let ready = ready_stays g a pushed needs needs c c w w k k t u (omega arith) r kept in
+      let regs : Regs = apply false Ldx 0 u.regs in
+      leads_as g a (value Ldx 0 ∷ []) 1 256 u (λ v. (v ≡ record u { regs = regs }) × IsBytes v) (λ v. Narrowed I.UChar u v × LeavesSecond u v) (omega arith)
+      (λ v e. rw e.0 ((kept_later g a pushed needs c w k u placed ready regs u.zp (λ i h. refl) (subst IsBytes e.0 e.1), omega (arith, loaded, ready.joins.bytes.a)), record { low = refl; high = refl }))
+      (lines_lead g a (value Ldx 0 ∷ []) u placed (is_on g a pushed needs c w k u placed ready) (refl, tt, omega arith, kept_regs u regs, tt))
+  narrow_is_light I.Short u light kept loaded = none_light I.Short u kept loaded
+  narrow_is_light I.UShort u light kept loaded = none_light I.UShort u kept loaded
+  narrow_is_light I.Int u light kept loaded = none_light I.Int u kept loaded
+  narrow_is_light I.UInt u light kept loaded = none_light I.UInt u kept loaded
+  narrow_is_light I.Long u light kept loaded = none_light I.Long u kept loaded
+  narrow_is_light I.ULong u light kept loaded = none_light I.ULong u kept loaded
+
 -- ---- the step
 
-size_of_kind : (kind : IntType) → loads.bytes_of (extent_of kind) ≡ bytes_of kind
+pub size_of_kind : (kind : IntType) → loads.bytes_of (extent_of kind) ≡ bytes_of kind
 size_of_kind I.SChar = refl
 size_of_kind I.UChar = refl
 size_of_kind I.Short = refl
@@ -165,7 +188,7 @@ module _ (g : World) (a : Active) (pushed needs : ℕ) (place : Place) (f : Shap
   spot : spot_in g a t place ≡ beyond q o
   spot = (meant there.block q at).1
 
-  can : CanLoad g t (spot_in g a t place) (loads.bytes_of (extent_of (kind_in f)))
+  pub can : CanLoad g t (spot_in g a t place) (loads.bytes_of (extent_of (kind_in f)))
   can = subst (λ s. CanLoad g t s (loads.bytes_of (extent_of (kind_in f)))) (sym spot) (go q refl at)
     where
       fits : o + loads.bytes_of (extent_of (kind_in f)) ≤ there.block.holds
@@ -191,7 +214,7 @@ module _ (g : World) (a : Active) (pushed needs : ℕ) (place : Place) (f : Shap
   fits = scalars_fit f there.block.cells there.block.holds o v scalar byte_there there.fits there.cells
 
   -- the value is in its register
-  result : (u : State) → primary_of (width_of (kind_in f)) u ≡ narrowed (kind_in f) (number_in (stored_at t (spot_in g a t place)) (bytes_of (kind_in f)) 0) → ResultIs Valued w (width_in f) v u
+  pub result : (u : State) → primary_of (width_of (kind_in f)) u ≡ narrowed (kind_in f) (number_in (stored_at t (spot_in g a t place)) (bytes_of (kind_in f)) 0) → ResultIs Valued w (width_in f) v u
   result u value = go f scalar v e fits (value ∙ ap (narrowed (kind_in f)) same)
     where
       same : number_in (stored_at t (spot_in g a t place)) (bytes_of (kind_in f)) 0 ≡ number_in (stored_at t q) (bytes_of (kind_in f)) o
@@ -215,8 +238,18 @@ module _ (g : World) (a : Active) (pushed needs : ℕ) (place : Place) (f : Shap
       go (Field kind low width) s v e fits value = absurd s
       go (Area size) s v e fits value = absurd s
 
+  -- lines that leave ptr2
+  pub fetched_light : IsNear place → IsKeptThere place (extent_of (kind_in f)) → IsLightAt place (extent_of (kind_in f)) → is_signed_char (kind_in f) ≡ false
+      → Leads g a (load_code place (access.Whole (kind_in f))) 526 t (λ u. Kept g a c w k t c w k u × ResultIs Valued w (width_in f) v u × LeavesSecond t u)
+  fetched_light near kept_there light unsigned =
+      let kind : IntType = kind_in f in
+      leads_then g a (bytes_code place (extent_of kind)) (narrow_code kind) 270 256 t (λ u. Kept g a c w k t c w k u × IsLoaded (extent_of kind) (spot_in g a t place) t u × LeavesSecond t u) (λ u. Kept g a c w k t c w k u × ResultIs Valued w (width_in f) v u × LeavesSecond t u)
+      (bytes_are_light g a pushed needs c w k t place (extent_of kind) placed r can near kept_there light) (λ u h.
+      leads_as g a (narrow_code kind) 256 256 u (λ x. (Kept g a c w k u c w k x × (primary_of (width_of kind) x ≡ narrowed kind (number_in (stored_at t (spot_in g a t place)) (bytes_of kind) 0))) × LeavesSecond u x) (λ x. Kept g a c w k t c w k x × ResultIs Valued w (width_in f) v x × LeavesSecond t x) (omega arith)
+      (λ x y. (kept_goes_on g a c c c w w w k k k t u x h.0 y.0.0, result x y.0.1, record { low = y.1.low ∙ h.2.low; high = y.1.high ∙ h.2.high })) (narrow_is_light g a pushed needs c w k t placed r (spot_in g a t place) kind u unsigned h.0 h.1))
+
   -- the lines of the load
-  fetched : IsNear place → IsKeptThere place (extent_of (kind_in f)) → Leads g a (load_code place (access.Whole (kind_in f))) 526 t (λ u. Kept g a c w k t c w k u × ResultIs Valued w (width_in f) v u)
+  pub fetched : IsNear place → IsKeptThere place (extent_of (kind_in f)) → Leads g a (load_code place (access.Whole (kind_in f))) 526 t (λ u. Kept g a c w k t c w k u × ResultIs Valued w (width_in f) v u)
   fetched near kept_there =
       let kind : IntType = kind_in f in
       leads_then g a (bytes_code place (extent_of kind)) (narrow_code kind) 270 256 t (λ u. Kept g a c w k t c w k u × IsLoaded (extent_of kind) (spot_in g a t place) t u) (λ u. Kept g a c w k t c w k u × ResultIs Valued w (width_in f) v u)

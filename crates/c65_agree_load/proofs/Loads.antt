@@ -1,5 +1,5 @@
 -- Bytes are loaded.
-use Rattle.std.proofs.Common.{◌≡◌, ℕ, ◌+◌, ◌*◌, ◌%◌, ◌<◌, ◌≤◌, ◌⊎◌, inl, inr, [], ◌∷◌, ◌++◌, Bool, true, false, refl, sym, ap, ◌∙◌, subst, arith}
+use Rattle.std.proofs.Common.{◌≡◌, ℕ, ◌+◌, ◌*◌, ◌%◌, ◌<◌, ◌≤◌, ◌⊎◌, inl, inr, List, [], ◌∷◌, ◌++◌, Bool, true, false, refl, sym, ap, ◌∙◌, subst, arith}
 use Rattle.std.specs.Prelude.{◌==◌, nat_lt, if◌then◌else◌, length}
 use Rattle.std.proofs.lemmas.Bool.{eqb-true, ltb-true, ltb-false}
 use Rattle.c65_mach.specs.declared.rows.Op.TheVariants.{Adc, Clc, Dey, Lda, Ldx, Ldy, Tax, Tay, Txa, Tya}
@@ -14,26 +14,28 @@ use Rattle.c65_code.specs.Steady.{IsOpen}
 use Rattle.c65_genwide.specs.Lines.{value, call}
 use Rattle.c65_genload.specs.declared.places.Extent.{Extent}
 use Rattle.c65_genload.specs.declared.places.Extent.TheVariants.{One, Two, Three, Four}
+use Rattle.c65_code.specs.declared.line.Line.{Line}
+use Rattle.c65_genload.specs.declared.places.Place.{Place}
 use Rattle.c65_genload.specs.declared.places.Place.TheVariants.{Bank, Near, Data, Far}
 use Rattle.c65_genload.specs.Words.{sp, regbank}
 use Rattle.c65_genload.specs.Places.{byte_more, word_more}
 use Rattle.c65_genload.specs.Numbers.{first, second, add_word_code}
-use Rattle.c65_genload.specs.Loads.{bank_code, near_code, data_code, far_code}
-use Rattle.c65_agree_store.specs.Stands.{Spot, At, Banked, Placing, Banks}
+use Rattle.c65_genload.specs.Loads.{bank_code, near_code, data_code, far_code, bytes_code}
+use Rattle.c65_agree_store.specs.Stands.{Spot, At, Banked, Placing, Banks, stored_at}
 use Rattle.c65_agree_store.specs.Laws.{number_in}
 use Rattle.c65_agree_state.specs.World.{World, Active}
 use Rattle.c65_agree_state.specs.Exprs.{Ready, Kept}
 use Rattle.c65_agree_state.proofs.Parts.{kept_goes_on}
-use Rattle.c65_agree_places.specs.Places.{stored_at}
+use Rattle.c65_agree_places.specs.Places.{spot_in}
 use Rattle.c65_agree_rows.specs.Rows.{WordByY, LongByY, IsNearLoaded, FarLong, IsFarLoaded}
 use Rattle.c65_agree_rows.specs.Laws.{IsKeptWith}
 use Rattle.c65_agree_rows.proofs.Quiet.{write_other, write_same}
-use Rattle.c65_agree_rows.proofs.Loads.{near_loads_run, far_loads_run}
+use Rattle.c65_agree_rows.proofs.Loads.{LeavesSecond, light_loads_run, far_loads_run}
 use Rattle.c65_agree_put.proofs.Stores.{data_is_low}
 use Rattle.c65_agree_frame.specs.Leads.{Leads, IsOn}
 use Rattle.c65_agree_frame.proofs.Entries.{append_end}
 use Rattle.c65_agree_frame.proofs.Leads.{leads_then, leads_as, kept_regs, kept_zero, after_lines, AreSafe, lines_lead}
-use Rattle.c65_agree_load.specs.Loads.{CanLoad, IsLoaded}
+use Rattle.c65_agree_load.specs.Loads.{CanLoad, IsNear, IsLoaded, IsKeptThere, bytes_of}
 use Rattle.c65_agree_load.specs.Laws.{BytesAreLoaded}
 use Rattle.c65_agree_load.proofs.Kept.{runs_lead, is_on, kept_later, ready_later}
 
@@ -41,16 +43,23 @@ module _ (g : World) (a : Active) (pushed needs : ℕ) (c : Scene) (w : Placing)
   on : IsOn g t
   on = is_on g a pushed needs c w k t placed r
 
-  -- what is behind lines that load
+  -- what is behind lines that load, and leave ptr2
   abbrev Behind : Extent → Spot → State → Type 0
-  Behind extent q u = Kept g a c w k t c w k u × IsLoaded extent q t u
+  Behind extent q u = Kept g a c w k t c w k u × IsLoaded extent q t u × LeavesSecond t u
+
+  -- and behind others
+  abbrev Loaded : Extent → Spot → State → Type 0
+  Loaded extent q u = Kept g a c w k t c w k u × IsLoaded extent q t u
+
+  alone : (lines : List Line) (extent : Extent) (q : Spot) → Leads g a lines 270 t (Behind extent q) → Leads g a lines 270 t (Loaded extent q)
+  alone lines extent q leads = leads_as g a lines 270 270 t (Behind extent q) (Loaded extent q) (omega arith) (λ u h. (h.0, h.1)) leads
 
   no_others : (i : ℕ) → (i < 2) ⊎ (20 ≤ i) → t.zp i ≡ t.zp i
   no_others i h = refl
 
   -- other registers alone
   by_regs : (extent : Extent) (q : Spot) (regs : Regs) (u : State) → u ≡ record t { regs = regs } → IsBytes u → IsLoaded extent q t (record t { regs = regs }) → Behind extent q u
-  by_regs extent q regs u e b loaded = rw e (kept_later g a pushed needs c w k t placed r regs t.zp no_others (subst IsBytes e b), loaded)
+  by_regs extent q regs u e b loaded = rw e (kept_later g a pushed needs c w k t placed r regs t.zp no_others (subst IsBytes e b), loaded, record { low = refl; high = refl })
 
   -- an open byte lies below the end of memory
   open_low : (n : ℕ) → IsOpen g.place (sp_of t) n → n < 65520
@@ -101,6 +110,13 @@ module _ (g : World) (a : Active) (pushed needs : ℕ) (c : Scene) (w : Placing)
         leads_as g a (near_code at One) 2 270 t (λ u. (u ≡ after_lines g (near_code at One) t) × IsBytes u) (Behind One (At (sp_of t + at))) (omega arith) (λ u e. by_regs One (At (sp_of t + at)) regs2 u e.0 e.1 byte)
         (lines_lead g a (near_code at One) t placed on (refl, tt, omega (arith, small), kept_regs t regs1, (refl, subst (IsOpen g.place (sp_of t)) (sym place) opened, tt, kept_regs (record t { regs = regs1 }) regs2, tt)))
 
+    -- other registers alone, and lines behind lines
+    left_as : {s : Regs} (u : State) → u ≡ record t { regs = s } → LeavesSecond t u
+    left_as u e = record { low = ap (λ (x : State). x.zp 10) e; high = ap (λ (x : State). x.zp 11) e }
+
+    left_then : (u v : State) → LeavesSecond t u → LeavesSecond u v → LeavesSecond t v
+    left_then u v x y = record { low = y.low ∙ x.low; high = y.high ∙ x.high }
+
     -- Y, and a routine
     module _ (y : ℕ) (few : y < 256) where
       abbrev regs_y : Regs
@@ -123,9 +139,9 @@ module _ (g : World) (a : Active) (pushed needs : ℕ) (c : Scene) (w : Placing)
         let spu : sp_of u ≡ sp_of t = kept.0.sp in
         let yu : u.regs.y ≡ at + 1 = ap (λ (x : State). x.regs.y) e.0 ∙ same in
         let mem : u.mem ≡ t.mem = ap (λ (x : State). x.mem) e.0 in
-        leads_as g a (call LdAxYSp ∷ []) 256 256 u (IsKeptWith g a c w k u (IsNearLoaded WordByY (sp_of u + at) u)) (Behind Two (At (sp_of t + at))) (omega arith)
-        (λ v x. (kept_goes_on g a c c c w w w k k k t u v kept.0 x.kept, word_there u v spu mem x.result))
-        (runs_lead g a pushed needs c w k u LdAxYSp (IsKeptWith g a c w k u (IsNearLoaded WordByY (sp_of u + at) u)) (omega arith) kept.1 (near_loads_run g a pushed needs c w k u WordByY at placed kept.1 yu (omega (arith, spu, high))))))
+        leads_as g a (call LdAxYSp ∷ []) 256 256 u (IsKeptWith g a c w k u (λ z. IsNearLoaded WordByY (sp_of u + at) u z × LeavesSecond u z)) (Behind Two (At (sp_of t + at))) (omega arith)
+        (λ v x. (kept_goes_on g a c c c w w w k k k t u v kept.0 x.kept, word_there u v spu mem x.result.0, left_then u v (left_as u e.0) x.result.1))
+        (runs_lead g a pushed needs c w k u LdAxYSp (IsKeptWith g a c w k u (λ z. IsNearLoaded WordByY (sp_of u + at) u z × LeavesSecond u z)) (omega arith) kept.1 (light_loads_run g a pushed needs c w k u WordByY at placed kept.1 yu (omega (arith, spu, high))))))
       where
         word_there : (u v : State) → sp_of u ≡ sp_of t → u.mem ≡ t.mem → ax_of v ≡ word_at u.mem (sp_of u + at) → IsLoaded Two (At (sp_of t + at)) t v
         word_there u v spu mem x =
@@ -146,9 +162,9 @@ module _ (g : World) (a : Active) (pushed needs : ℕ) (c : Scene) (w : Placing)
         let spu : sp_of u ≡ sp_of t = kept.0.sp in
         let yu : u.regs.y ≡ at + 3 = ap (λ (x : State). x.regs.y) e.0 ∙ same in
         let mem : u.mem ≡ t.mem = ap (λ (x : State). x.mem) e.0 in
-        leads_as g a (call LdEaxYSp ∷ []) 256 256 u (IsKeptWith g a c w k u (IsNearLoaded LongByY (sp_of u + at) u)) (Behind Four (At (sp_of t + at))) (omega arith)
-        (λ v x. (kept_goes_on g a c c c w w w k k k t u v kept.0 x.kept, long_there u v spu mem x.result))
-        (runs_lead g a pushed needs c w k u LdEaxYSp (IsKeptWith g a c w k u (IsNearLoaded LongByY (sp_of u + at) u)) (omega arith) kept.1 (near_loads_run g a pushed needs c w k u LongByY at placed kept.1 yu (omega (arith, spu, high))))))
+        leads_as g a (call LdEaxYSp ∷ []) 256 256 u (IsKeptWith g a c w k u (λ z. IsNearLoaded LongByY (sp_of u + at) u z × LeavesSecond u z)) (Behind Four (At (sp_of t + at))) (omega arith)
+        (λ v x. (kept_goes_on g a c c c w w w k k k t u v kept.0 x.kept, long_there u v spu mem x.result.0, left_then u v (left_as u e.0) x.result.1))
+        (runs_lead g a pushed needs c w k u LdEaxYSp (IsKeptWith g a c w k u (λ z. IsNearLoaded LongByY (sp_of u + at) u z × LeavesSecond u z)) (omega arith) kept.1 (light_loads_run g a pushed needs c w k u LongByY at placed kept.1 yu (omega (arith, spu, high))))))
       where
         byte_there : (u : State) (i : ℕ) → sp_of u ≡ sp_of t → u.mem ≡ t.mem → u.mem (sp_of u + at + i) ≡ t.mem (sp_of t + at + i)
         byte_there u i spu mem = let place : sp_of u + at + i ≡ sp_of t + at + i = omega (arith, spu) in ap u.mem place ∙ ap (λ (m : Bytes). m (sp_of t + at + i)) mem
@@ -242,6 +258,9 @@ module _ (g : World) (a : Active) (pushed needs : ℕ) (c : Scene) (w : Placing)
           two (inl h) e = omega (arith, h, e)
           two (inr h) e = omega (arith, h, e)
 
+      second_stays : (i : ℕ) → 10 ≤ i → z2 i ≡ t.zp i
+      second_stays i le = write_other z1 3 (t.mem l3) i (λ e. omega (arith, le, e)) ∙ write_other t.zp 2 (t.mem l2) i (λ e. omega (arith, le, e))
+
       long_is : eax_of (record t { regs = r4; zp = z2 }) ≡ number_in (stored_at t (At l0)) 4 0
       long_is =
           let here : l0 ≡ l0 + 0 = omega arith in
@@ -290,7 +309,7 @@ module _ (g : World) (a : Active) (pushed needs : ℕ) (c : Scene) (w : Placing)
       four_at_symbol : Leads g a (data_code s off Four) 270 t (Behind Four (At l0))
       four_at_symbol =
           leads_as g a (data_code s off Four) 6 270 t (λ u. (u ≡ after_lines g (data_code s off Four) t) × IsBytes u) (Behind Four (At l0)) (omega arith)
-          (λ u e. rw e.0 (kept_later g a pushed needs c w k t placed r r4 z2 other_bytes (subst IsBytes e.0 e.1), long_is)) (lines_lead g a (data_code s off Four) t placed on four_safe)
+          (λ u e. rw e.0 (kept_later g a pushed needs c w k t placed r r4 z2 other_bytes (subst IsBytes e.0 e.1), long_is, record { low = second_stays 10 (omega arith); high = second_stays 11 (omega arith) })) (lines_lead g a (data_code s off Four) t placed on four_safe)
 
   -- ---- behind the address in AX
 
@@ -315,8 +334,11 @@ module _ (g : World) (a : Active) (pushed needs : ℕ) (c : Scene) (w : Placing)
         eight (inl h) e = omega (arith, h, e)
         eight (inr h) e = omega (arith, h, e)
 
+    second_left : (i : ℕ) → 10 ≤ i → p9 i ≡ t.zp i
+    second_left i le = write_other p8 9 t.regs.x i (λ e. omega (arith, le, e)) ∙ write_other t.zp 8 t.regs.a i (λ e. omega (arith, le, e))
+
     by_pointer : (extent : Extent) (regs : Regs) (u : State) → u ≡ record t { regs = regs; zp = p9 } → IsBytes u → IsLoaded extent q t (record t { regs = regs; zp = p9 }) → Behind extent q u
-    by_pointer extent regs u e b loaded = rw e (kept_later g a pushed needs c w k t placed r regs p9 pointer_others (subst IsBytes e b), loaded)
+    by_pointer extent regs u e b loaded = rw e (kept_later g a pushed needs c w k t placed r regs p9 pointer_others (subst IsBytes e b), loaded, record { low = second_left 10 (omega arith); high = second_left 11 (omega arith) })
 
     one_far : CanLoad g t q 1 → Leads g a (far_code at One) 270 t (Behind One q)
     one_far can =
@@ -415,12 +437,12 @@ module _ (g : World) (a : Active) (pushed needs : ℕ) (c : Scene) (w : Placing)
       omega (arith, x, here, last, m0, m1, m2, m3)
 
   -- such a state that differs in registers alone
-  four_from : (regs : Regs) (u : State) (at : ℕ) → u ≡ record t { regs = regs } → IsBytes u → ax_of u ≡ at → CanLoad g t (At at) 4 → Leads g a (call LdEaxi ∷ []) 256 u (Behind Four (At at))
+  four_from : (regs : Regs) (u : State) (at : ℕ) → u ≡ record t { regs = regs } → IsBytes u → ax_of u ≡ at → CanLoad g t (At at) 4 → Leads g a (call LdEaxi ∷ []) 256 u (Loaded Four (At at))
   four_from regs u at e b ax can =
       let kept : Kept g a c w k t c w k u = rw e (kept_later g a pushed needs c w k t placed r regs t.zp no_others (subst IsBytes e b)) in
       let ready : Ready g a pushed needs c w k u = rw e (ready_later g a pushed needs c w k t placed r regs t.zp no_others (subst IsBytes e b)) in
       let mem : u.mem ≡ t.mem = ap (λ (x : State). x.mem) e in
-      leads_as g a (call LdEaxi ∷ []) 256 256 u (IsKeptWith g a c w k u (IsFarLoaded FarLong u)) (Behind Four (At at)) (omega arith)
+      leads_as g a (call LdEaxi ∷ []) 256 256 u (IsKeptWith g a c w k u (IsFarLoaded FarLong u)) (Loaded Four (At at)) (omega arith)
       (λ v x. (kept_goes_on g a c c c w w w k k k t u v kept x.kept, long_there u v at ax mem x.result))
       (runs_lead g a pushed needs c w k u LdEaxi (IsKeptWith g a c w k u (IsFarLoaded FarLong u)) (omega arith) ready (far_loads_run g a pushed needs c w k u FarLong placed ready (λ i lt. opened kept.sp i lt)))
     where
@@ -469,7 +491,7 @@ module _ (g : World) (a : Active) (pushed needs : ℕ) (c : Scene) (w : Placing)
         let c0 = carried s0 (omega (arith, r.joins.bytes.a, small)) in
         omega (arith, c0, low, small, r.joins.bytes.a, r.joins.bytes.x)
 
-    four_far : CanLoad g t (At (ax_of t + at)) 4 → Leads g a (far_code at Four) 270 t (Behind Four (At (ax_of t + at)))
+    four_far : CanLoad g t (At (ax_of t + at)) 4 → Leads g a (far_code at Four) 270 t (Loaded Four (At (ax_of t + at)))
     four_far can = go (at == 0) refl
       where
         low : ax_of t + at < 65536
@@ -502,32 +524,58 @@ module _ (g : World) (a : Active) (pushed needs : ℕ) (c : Scene) (w : Placing)
           ),
         )
 
-        go : (none : Bool) → (at == 0) ≡ none → Leads g a ((if none then [] else add_word_code at ++ []) ++ (call LdEaxi ∷ [])) 270 t (Behind Four (At (ax_of t + at)))
+        go : (none : Bool) → (at == 0) ≡ none → Leads g a ((if none then [] else add_word_code at ++ []) ++ (call LdEaxi ∷ [])) 270 t (Loaded Four (At (ax_of t + at)))
         go true e =
             let zero : at ≡ 0 = eqb-true at 0 e in
-            leads_as g a (call LdEaxi ∷ []) 256 270 t (Behind Four (At (ax_of t + at))) (Behind Four (At (ax_of t + at))) (omega arith) (λ u h. h) (four_from t.regs t (ax_of t + at) refl r.joins.bytes (omega (arith, zero)) can)
+            leads_as g a (call LdEaxi ∷ []) 256 270 t (Loaded Four (At (ax_of t + at))) (Loaded Four (At (ax_of t + at))) (omega arith) (λ u h. h) (four_from t.regs t (ax_of t + at) refl r.joins.bytes (omega (arith, zero)) can)
         go false e =
-            subst (λ ls. Leads g a (ls ++ (call LdEaxi ∷ [])) 270 t (Behind Four (At (ax_of t + at)))) (sym (append_end (add_word_code at)))
-            (leads_as g a (add_word_code at ++ (call LdEaxi ∷ [])) 263 270 t (Behind Four (At (ax_of t + at))) (Behind Four (At (ax_of t + at))) (omega arith) (λ u h. h)
-            (leads_then g a (add_word_code at) (call LdEaxi ∷ []) 7 256 t (λ u. (u ≡ after_lines g (add_word_code at) t) × IsBytes u) (Behind Four (At (ax_of t + at))) (lines_lead g a (add_word_code at) t placed on sum_safe) (λ u x.
+            subst (λ ls. Leads g a (ls ++ (call LdEaxi ∷ [])) 270 t (Loaded Four (At (ax_of t + at)))) (sym (append_end (add_word_code at)))
+            (leads_as g a (add_word_code at ++ (call LdEaxi ∷ [])) 263 270 t (Loaded Four (At (ax_of t + at))) (Loaded Four (At (ax_of t + at))) (omega arith) (λ u h. h)
+            (leads_then g a (add_word_code at) (call LdEaxi ∷ []) 7 256 t (λ u. (u ≡ after_lines g (add_word_code at) t) × IsBytes u) (Loaded Four (At (ax_of t + at))) (lines_lead g a (add_word_code at) t placed on sum_safe) (λ u x.
             four_from a7 u (ax_of t + at) x.0 x.1 (ap ax_of x.0 ∙ sum_is low) can)))
 
 -- ---- the law
 
+-- from all places but the address in AX, from which four bytes are loaded by a routine that may change ptr2
+abbrev pub IsLightAt : Place → Extent → Type 0
+IsLightAt (Far at) Four = ⊥
+IsLightAt place extent = Unit {0}
+
+-- the same bytes, and ptr2 stays
+pub bytes_are_light : (g : World) (a : Active) (pushed needs : ℕ) (c : Scene) (w : Placing) (k : Banks) (t : State) (place : Place) (extent : Extent)
+    → IsPlacement g.code g.place → Ready g a pushed needs c w k t → CanLoad g t (spot_in g a t place) (bytes_of extent) → IsNear place → IsKeptThere place extent → IsLightAt place extent
+    → Leads g a (bytes_code place extent) 270 t (λ u. Kept g a c w k t c w k u × IsLoaded extent (spot_in g a t place) t u × LeavesSecond t u)
+bytes_are_light g a pushed needs c w k t (Bank at) One placed r can near there light = one_in_bank g a pushed needs c w k t placed r at can
+bytes_are_light g a pushed needs c w k t (Bank at) Two placed r can near there light = two_in_bank g a pushed needs c w k t placed r at can
+bytes_are_light g a pushed needs c w k t (Near at) One placed r can near there light = one_near g a pushed needs c w k t placed r at near can
+bytes_are_light g a pushed needs c w k t (Near at) Two placed r can near there light = two_near g a pushed needs c w k t placed r at near can
+bytes_are_light g a pushed needs c w k t (Near at) Four placed r can near there light = four_near g a pushed needs c w k t placed r at near can
+bytes_are_light g a pushed needs c w k t (Data s off) One placed r can near there light = one_at_symbol g a pushed needs c w k t placed r s off near can
+bytes_are_light g a pushed needs c w k t (Data s off) Two placed r can near there light = two_at_symbol g a pushed needs c w k t placed r s off near can
+bytes_are_light g a pushed needs c w k t (Data s off) Four placed r can near there light = four_at_symbol g a pushed needs c w k t placed r s off near can
+bytes_are_light g a pushed needs c w k t (Far at) One placed r can near there light = one_far g a pushed needs c w k t placed r at near can
+bytes_are_light g a pushed needs c w k t (Far at) Two placed r can near there light = two_far g a pushed needs c w k t placed r at near can
+bytes_are_light g a pushed needs c w k t (Far at) Four placed r can near there light = absurd light
+bytes_are_light g a pushed needs c w k t (Bank at) Three placed r can near there light = absurd there
+bytes_are_light g a pushed needs c w k t (Bank at) Four placed r can near there light = absurd there
+bytes_are_light g a pushed needs c w k t (Near at) Three placed r can near there light = absurd there
+bytes_are_light g a pushed needs c w k t (Data s off) Three placed r can near there light = absurd there
+bytes_are_light g a pushed needs c w k t (Far at) Three placed r can near there light = absurd there
+
 pub bytes_are_loaded : BytesAreLoaded
-bytes_are_loaded g a pushed needs c w k t (Bank at) One placed r can near there = one_in_bank g a pushed needs c w k t placed r at can
-bytes_are_loaded g a pushed needs c w k t (Bank at) Two placed r can near there = two_in_bank g a pushed needs c w k t placed r at can
+bytes_are_loaded g a pushed needs c w k t (Bank at) One placed r can near there = alone g a pushed needs c w k t placed r (bytes_code (Bank at) One) One (spot_in g a t (Bank at)) (one_in_bank g a pushed needs c w k t placed r at can)
+bytes_are_loaded g a pushed needs c w k t (Bank at) Two placed r can near there = alone g a pushed needs c w k t placed r (bytes_code (Bank at) Two) Two (spot_in g a t (Bank at)) (two_in_bank g a pushed needs c w k t placed r at can)
+bytes_are_loaded g a pushed needs c w k t (Near at) One placed r can near there = alone g a pushed needs c w k t placed r (bytes_code (Near at) One) One (spot_in g a t (Near at)) (one_near g a pushed needs c w k t placed r at near can)
+bytes_are_loaded g a pushed needs c w k t (Near at) Two placed r can near there = alone g a pushed needs c w k t placed r (bytes_code (Near at) Two) Two (spot_in g a t (Near at)) (two_near g a pushed needs c w k t placed r at near can)
+bytes_are_loaded g a pushed needs c w k t (Near at) Four placed r can near there = alone g a pushed needs c w k t placed r (bytes_code (Near at) Four) Four (spot_in g a t (Near at)) (four_near g a pushed needs c w k t placed r at near can)
+bytes_are_loaded g a pushed needs c w k t (Data s off) One placed r can near there = alone g a pushed needs c w k t placed r (bytes_code (Data s off) One) One (spot_in g a t (Data s off)) (one_at_symbol g a pushed needs c w k t placed r s off near can)
+bytes_are_loaded g a pushed needs c w k t (Data s off) Two placed r can near there = alone g a pushed needs c w k t placed r (bytes_code (Data s off) Two) Two (spot_in g a t (Data s off)) (two_at_symbol g a pushed needs c w k t placed r s off near can)
+bytes_are_loaded g a pushed needs c w k t (Data s off) Four placed r can near there = alone g a pushed needs c w k t placed r (bytes_code (Data s off) Four) Four (spot_in g a t (Data s off)) (four_at_symbol g a pushed needs c w k t placed r s off near can)
+bytes_are_loaded g a pushed needs c w k t (Far at) One placed r can near there = alone g a pushed needs c w k t placed r (bytes_code (Far at) One) One (spot_in g a t (Far at)) (one_far g a pushed needs c w k t placed r at near can)
+bytes_are_loaded g a pushed needs c w k t (Far at) Two placed r can near there = alone g a pushed needs c w k t placed r (bytes_code (Far at) Two) Two (spot_in g a t (Far at)) (two_far g a pushed needs c w k t placed r at near can)
+bytes_are_loaded g a pushed needs c w k t (Far at) Four placed r can near there = four_far g a pushed needs c w k t placed r at near can
 bytes_are_loaded g a pushed needs c w k t (Bank at) Three placed r can near there = absurd there
 bytes_are_loaded g a pushed needs c w k t (Bank at) Four placed r can near there = absurd there
-bytes_are_loaded g a pushed needs c w k t (Near at) One placed r can near there = one_near g a pushed needs c w k t placed r at near can
-bytes_are_loaded g a pushed needs c w k t (Near at) Two placed r can near there = two_near g a pushed needs c w k t placed r at near can
 bytes_are_loaded g a pushed needs c w k t (Near at) Three placed r can near there = absurd there
-bytes_are_loaded g a pushed needs c w k t (Near at) Four placed r can near there = four_near g a pushed needs c w k t placed r at near can
-bytes_are_loaded g a pushed needs c w k t (Data s off) One placed r can near there = one_at_symbol g a pushed needs c w k t placed r s off near can
-bytes_are_loaded g a pushed needs c w k t (Data s off) Two placed r can near there = two_at_symbol g a pushed needs c w k t placed r s off near can
 bytes_are_loaded g a pushed needs c w k t (Data s off) Three placed r can near there = absurd there
-bytes_are_loaded g a pushed needs c w k t (Data s off) Four placed r can near there = four_at_symbol g a pushed needs c w k t placed r s off near can
-bytes_are_loaded g a pushed needs c w k t (Far at) One placed r can near there = one_far g a pushed needs c w k t placed r at near can
-bytes_are_loaded g a pushed needs c w k t (Far at) Two placed r can near there = two_far g a pushed needs c w k t placed r at near can
 bytes_are_loaded g a pushed needs c w k t (Far at) Three placed r can near there = absurd there
-bytes_are_loaded g a pushed needs c w k t (Far at) Four placed r can near there = four_far g a pushed needs c w k t placed r at near can

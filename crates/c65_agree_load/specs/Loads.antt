@@ -8,10 +8,10 @@ use Rattle.c65_genload.specs.declared.places.Extent.{Extent}
 use Rattle.c65_genload.specs.declared.places.Extent.TheVariants.{One, Two, Three, Four}
 use Rattle.c65_genload.specs.declared.places.Place.{Place}
 use Rattle.c65_genload.specs.declared.places.Place.TheVariants.{Bank, Near, Data, Far}
-use Rattle.c65_agree_store.specs.Stands.{Spot, At, Banked, Placing, IsAt, beyond}
+use Rattle.c65_agree_store.specs.Stands.{Spot, At, Banked, Placing, IsAt, beyond, stored_at}
 use Rattle.c65_agree_store.specs.Laws.{number_in}
 use Rattle.c65_agree_state.specs.World.{World, Active}
-use Rattle.c65_agree_places.specs.Places.{spot_in, IsReached, stored_at}
+use Rattle.c65_agree_places.specs.Places.{spot_in, IsReached}
 
 -- so many bytes that lines may reach
 abbrev pub CanLoad : World → State → Spot → ℕ → Type 0

@@ -45,7 +45,7 @@ use Rattle.c65_agree_operate_bytes.proofs.Swapped.{narrow_form, read_is_plain, s
 -- ---- constants and addresses
 
 -- a byte of one is read alike in each state
-fixed_byte : (g : World) (t u : State) (d : Direct) (i n : ℕ) (x : OperandByte) → is_fixed (Some d) ≡ true → operand_of d i ≡ Some x → MayRead g t x × (byte_in g t x ≡ n) → MayRead g u x × (byte_in g u x ≡ n)
+pub fixed_byte : (g : World) (t u : State) (d : Direct) (i n : ℕ) (x : OperandByte) → is_fixed (Some d) ≡ true → operand_of d i ≡ Some x → MayRead g t x × (byte_in g t x ≡ n) → MayRead g u x × (byte_in g u x ≡ n)
 fixed_byte g t u (directs.Number m) i n x fixed e h =
     let same : bytes.Number (number_byte m i) ≡ x = cc in
     subst (λ y. MayRead g t y × (byte_in g t y ≡ n) → MayRead g u y × (byte_in g u y ≡ n)) same (λ z. z) h

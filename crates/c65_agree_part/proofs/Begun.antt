@@ -32,7 +32,7 @@ use Rattle.c65_agree_store.specs.Laws.{with_cells, byte_of}
 use Rattle.c65_agree_state.specs.World.{World, unit_in, Active, lines_of, place_in, HasAt, HasTurns}
 use Rattle.c65_agree_state.specs.Follows.{Follows}
 use Rattle.c65_agree_state.specs.Exprs.{Ready, Valued, MayFit, ResultIs, width_in}
-use Rattle.c65_agree_state.specs.Stmts.{AreSized}
+use Rattle.c65_agree_state.specs.Sizes.{AreSized}
 use Rattle.c65_agree_state.proofs.Followed.{follows_weaken, steps_earn, ready_is_calm}
 use Rattle.c65_agree_rows.proofs.Quiet.{nothing_follows}
 use Rattle.c65_agree_put.specs.Puts.{MayPut, with_put, AreTaken}

@@ -11,13 +11,12 @@ use Rattle.c65_meaning.specs.Step.{stored}
 use Rattle.c65_code.specs.LineState.{Bytes, write, State, sp_of, IsBytes}
 use Rattle.c65_code.specs.Placement.{IsPlacement}
 use Rattle.c65_code.specs.Steady.{IsOpen}
-use Rattle.c65_agree_store.specs.Stands.{Spot, At, Banked, Placing, Banks, CellIs, IsAt, beyond}
+use Rattle.c65_agree_store.specs.Stands.{Spot, At, Banked, Placing, Banks, CellIs, IsAt, beyond, stored_at}
 use Rattle.c65_agree_store.specs.Laws.{with_cells}
 use Rattle.c65_agree_state.specs.World.{World, Active}
 use Rattle.c65_agree_state.specs.Exprs.{Ready, Kept, bounds_of}
 use Rattle.c65_agree_state.proofs.Nodes.{ready_stays}
 use Rattle.c65_agree_state.proofs.Parts.{kept_goes_on}
-use Rattle.c65_agree_places.specs.Places.{stored_at}
 use Rattle.c65_agree_put.specs.Puts.{OnlyStored, AreLaid, IsOwn, IsNoConstant, MayPut, with_put, banks_in}
 use Rattle.c65_agree_put.proofs.Puts.{banks_follow, puts_are_kept}
 use Rattle.c65_agree_rows.proofs.Quiet.{write_other, write_same}

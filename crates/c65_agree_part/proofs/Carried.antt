@@ -35,10 +35,10 @@ use Rattle.c65_genstmt.specs.Objects.{spot_at, spot_of}
 use Rattle.c65_agree_store.specs.Stands.{At, Placing, Banks, CellIs, IsAt}
 use Rattle.c65_agree_state.specs.World.{World, unit_in, program_in, setting_in, Active, lines_of, place_in, HasAt, IsPlaced, HasTurns}
 use Rattle.c65_agree_state.specs.Fixed.{symbol_at}
+use Rattle.c65_agree_state.specs.Sizes.{AreSized}
 use Rattle.c65_agree_state.specs.Joins.{home_spot}
 use Rattle.c65_agree_state.specs.Follows.{Follows}
 use Rattle.c65_agree_state.specs.Exprs.{Ready, Kept}
-use Rattle.c65_agree_state.specs.Stmts.{AreSized}
 use Rattle.c65_agree_state.proofs.Followed.{follows_weaken, steps_earn, ready_is_calm}
 use Rattle.c65_agree_state.proofs.Leaves.{scratch_is_kept}
 use Rattle.c65_agree_state.proofs.Nodes.{has_front, has_back}

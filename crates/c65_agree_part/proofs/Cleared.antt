@@ -31,10 +31,10 @@ use Rattle.c65_genstmt.specs.declared.objects.Spot.TheVariants as spots
 use Rattle.c65_genstmt.specs.Objects.{spot_of}
 use Rattle.c65_agree_store.specs.Stands.{Spot, At, Banked, Placing, Banks, CellIs, beyond}
 use Rattle.c65_agree_state.specs.World.{World, unit_in, program_in, setting_in, Active, lines_of, place_in, HasAt, IsPlaced, HasTurns}
+use Rattle.c65_agree_state.specs.Sizes.{AreSized}
 use Rattle.c65_agree_state.specs.Joins as joined
 use Rattle.c65_agree_state.specs.Follows.{Follows}
 use Rattle.c65_agree_state.specs.Exprs.{Ready, Kept}
-use Rattle.c65_agree_state.specs.Stmts.{AreSized}
 use Rattle.c65_agree_state.proofs.Followed.{follows_weaken, steps_earn, ready_is_calm}
 use Rattle.c65_agree_state.proofs.Leaves.{scratch_is_kept, with_regs}
 use Rattle.c65_agree_state.proofs.Nodes.{has_front, has_back}

@@ -15,10 +15,10 @@ use Rattle.c65_genstmt.specs.Objects.{spot_at, spot_of}
 use Rattle.c65_agree_store.specs.Stands.{Spot, At, Banked, Placing, Banks, IsAt, LiesIn, beyond}
 use Rattle.c65_agree_state.specs.World.{World, unit_in, Active}
 use Rattle.c65_agree_state.specs.Fixed.{symbol_at}
+use Rattle.c65_agree_state.specs.Sizes.{AreSized}
 use Rattle.c65_agree_state.specs.Joins.{home_spot}
 use Rattle.c65_agree_state.specs.Exprs.{Ready}
 use Rattle.c65_agree_state.specs.Laws.{HasStacks}
-use Rattle.c65_agree_state.specs.Stmts.{AreSized}
 use Rattle.c65_agree_state.proofs.Followed.{ready_is_calm}
 use Rattle.c65_agree_state.proofs.Scratch.{constants_are_low}
 use Rattle.c65_agree_put.specs.Puts.{IsOwn, IsNoConstant}

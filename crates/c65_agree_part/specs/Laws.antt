@@ -28,7 +28,7 @@ use Rattle.c65_agree_state.specs.World.{World, unit_in, Active, IsCallOf, lines_
 use Rattle.c65_agree_state.specs.Fixed.{symbol_at}
 use Rattle.c65_agree_state.specs.Follows.{Follows}
 use Rattle.c65_agree_state.specs.Exprs.{Ready, Kept, Yield, Valued, Registered, Does as LinesDo, MayFit, ResultIs, width_in, shape_in}
-use Rattle.c65_agree_state.specs.Stmts.{AreSized}
+use Rattle.c65_agree_state.specs.Sizes.{AreSized}
 use Rattle.c65_agree_lines.specs.Lists.{zeros_code}
 use Rattle.c65_agree_put.specs.Puts.{with_put, AreTaken}
 use Rattle.c65_agree_put.specs.Laws.{IsScalar}

@@ -8,13 +8,13 @@ use Rattle.c65_meaning.specs.Store.{Cell, Bits, Piece, Clouded, Block, Value, Wh
 use Rattle.c65_meaning.specs.State.{Scene}
 use Rattle.c65_code.specs.LineState.{State, sp_of}
 use Rattle.c65_code.specs.Steady.{IsOpen}
-use Rattle.c65_agree_store.specs.Stands.{Spot, At, Banked, Placing, Banks, CellIs, ValueIs, IsAt, LiesIn}
+use Rattle.c65_agree_store.specs.Stands.{Spot, At, Banked, Placing, Banks, CellIs, ValueIs, IsAt, LiesIn, stored_at}
 use Rattle.c65_agree_store.specs.Laws.{number_in}
 use Rattle.c65_agree_store.proofs.Read.{numbers_are_read, places_are_read}
 use Rattle.c65_agree_state.specs.World.{World, Active}
 use Rattle.c65_agree_state.specs.Joins.{Joins}
 use Rattle.c65_agree_numbers.proofs.Bytes.{numbers_are_loaded}
-use Rattle.c65_agree_places.specs.Places.{IsReached, stored_at}
+use Rattle.c65_agree_places.specs.Places.{IsReached}
 use Rattle.c65_agree_places.specs.Laws.{HeldBytesAreOpen, NumbersAreThere, PointersAreThere}
 
 pub held_bytes_are_open : HeldBytesAreOpen

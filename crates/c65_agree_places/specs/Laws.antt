@@ -12,13 +12,13 @@ use Rattle.c65_genframe.specs.Frames.{home_of, is_raised}
 use Rattle.c65_genframe.specs.Symbols.{numbers_of, object_symbol, literal_symbol, function_symbol}
 use Rattle.c65_genload.specs.declared.places.Place.{Place}
 use Rattle.c65_genload.specs.declared.places.Place.TheVariants.{Data}
-use Rattle.c65_agree_store.specs.Stands.{Spot, At, Placing, Banks, ValueIs, IsAt, LiesIn, beyond}
+use Rattle.c65_agree_store.specs.Stands.{Spot, At, Placing, Banks, ValueIs, IsAt, LiesIn, beyond, stored_at}
 use Rattle.c65_agree_store.specs.Laws.{number_in}
 use Rattle.c65_agree_state.specs.World.{World, unit_in, Active}
 use Rattle.c65_agree_state.specs.Joins.{Joins}
 use Rattle.c65_agree_state.specs.Exprs.{Ready}
 use Rattle.c65_agree_numbers.specs.Words.{word_of, narrowed}
-use Rattle.c65_agree_places.specs.Places.{spot_in, part_at, home_place, IsReached, stored_at}
+use Rattle.c65_agree_places.specs.Places.{spot_in, part_at, home_place, IsReached}
 
 -- ---- where blocks stand
 

@@ -34,8 +34,3 @@ home_place g pushed i (Some (homes.Soft d)) = Near (d + pushed)
 abbrev pub IsReached : Active → Spot → Type 0
 IsReached a (At at) = Unit {0}
 IsReached a (Banked d i) = d ≡ length a.behind
-
--- the machine's byte so far behind a spot
-abbrev pub stored_at : State → Spot → ℕ → ℕ
-stored_at t (At at) o = t.mem (at + o)
-stored_at t (Banked d i) o = t.zp (20 + (i + o))

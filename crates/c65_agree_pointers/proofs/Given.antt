@@ -24,7 +24,8 @@ use Rattle.c65_agree_operate.proofs.Lefts.{HasWord}
 use Rattle.c65_agree_operate_bytes.specs.Laws.{IsSum}
 use Rattle.c65_agree_operate_bytes.proofs.Words.{word_on}
 use Rattle.c65_agree_pointers.specs.Sums.{told}
-use Rattle.c65_agree_pointers.proofs.Moved.{IsMoved, bytes_by, moved_is}
+use Rattle.c65_agree_pointers.proofs.Moved.{bytes_by, moved_is}
+use Rattle.c65_agree_store.proofs.Moved.{IsMoved}
 use Rattle.c65_agree_pointers.proofs.Words.{pointer_result}
 
 module _ (g : World) (a : Active) (m : Manner) (pushed needs : ℕ) (c : Scene) (w : Placing) (b : Banks) (u : State) (ready : Ready g a pushed needs c w b u) where

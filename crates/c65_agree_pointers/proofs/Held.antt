@@ -41,20 +41,20 @@ use Rattle.c65_agree_pointers.proofs.Indexed.{turn}
 use Rattle.c65_agree_pointers.proofs.Waits.{left_held_there}
 
 -- that of elements of one byte
-abbrev held_by : BinaryOp → Form
+abbrev pub held_by : BinaryOp → Form
 held_by ops.Sub = Under held_low held_high
 held_by _ = Word ops.Add held_low held_high
 
-record IsHeldForm (op : BinaryOp) (size : ℕ) (form : Form) : Type 0 where
-  one : size ≡ 1
-  form_is : form ≡ held_by op
+pub record IsHeldForm (op : BinaryOp) (size : ℕ) (form : Form) : Type 0 where
+  pub one : size ≡ 1
+  pub form_is : form ≡ held_by op
 
 held_is : (op : BinaryOp) (form : Form) → IsSum op → held_elements op ≡ Some form → form ≡ held_by op
 held_is ops.Add form o h = cc
 held_is ops.Sub form o h = cc
 held_is _ form o h = absurd o
 
-held_form_is : (op : BinaryOp) (size : ℕ) (form : Form) → IsSum op → (b : Bool) → (size == 1) ≡ b → (if b then held_elements op else None) ≡ Some form → IsHeldForm op size form
+pub held_form_is : (op : BinaryOp) (size : ℕ) (form : Form) → IsSum op → (b : Bool) → (size == 1) ≡ b → (if b then held_elements op else None) ≡ Some form → IsHeldForm op size form
 held_form_is op size form o true e h = record { one = eqb-true size 1 e; form_is = held_is op form o h }
 held_form_is op size form o false e h = absurd (cc)
 

@@ -23,7 +23,7 @@ use Rattle.c65_agree_operate_bytes.proofs.Words.{word_on}
 use Rattle.c65_agree_operate_bytes.proofs.Rights.{HasPair}
 use Rattle.c65_agree_quick.specs.Laws.{HasTwo}
 use Rattle.c65_agree_pointers.specs.Sums.{told}
-use Rattle.c65_agree_pointers.proofs.Moved.{IsMoved}
+use Rattle.c65_agree_store.proofs.Moved.{IsMoved}
 use Rattle.c65_agree_pointers.proofs.Elements.{told_below}
 use Rattle.c65_agree_pointers.proofs.Words.{IsRead, pointer_pair, same_word}
 use Rattle.c65_agree_pointers.proofs.Given.{moved_given}

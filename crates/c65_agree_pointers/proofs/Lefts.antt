@@ -39,11 +39,11 @@ use Rattle.c65_agree_pointers.proofs.Forms.{distance_under_form}
 use Rattle.c65_agree_pointers.proofs.Indexed.{indexed_leads}
 use Rattle.c65_agree_pointers.proofs.Walks.{left_read}
 
-record IsIndexed (op : BinaryOp) (size : ℕ) (low high : OperandByte) (form : Form) : Type 0 where
-  adds : op ≡ ops.Add
-  form_is : form ≡ Indexed size low high
+pub record IsIndexed (op : BinaryOp) (size : ℕ) (low high : OperandByte) (form : Form) : Type 0 where
+  pub adds : op ≡ ops.Add
+  pub form_is : form ≡ Indexed size low high
 
-indexed_is : (op : BinaryOp) (size : ℕ) (low high : OperandByte) (form : Form) → IsSum op → left_form op (PointerFirst size) low high ≡ Some form → IsIndexed op size low high form
+pub indexed_is : (op : BinaryOp) (size : ℕ) (low high : OperandByte) (form : Form) → IsSum op → left_form op (PointerFirst size) low high ≡ Some form → IsIndexed op size low high form
 indexed_is ops.Add size low high form o h = record { adds = refl; form_is = cc }
 indexed_is ops.Sub size low high form o h = absurd (cc)
 indexed_is _ size low high form o h = absurd o

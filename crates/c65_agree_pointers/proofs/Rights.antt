@@ -44,15 +44,15 @@ use Rattle.c65_agree_pointers.proofs.Walks.{IsReadAt, read_takes_none, right_rea
 
 -- ---- the forms
 
-record IsWordForm (op : BinaryOp) (size : ℕ) (low high : OperandByte) (form : Form) : Type 0 where
-  one : size ≡ 1
-  form_is : form ≡ Word op low high
+pub record IsWordForm (op : BinaryOp) (size : ℕ) (low high : OperandByte) (form : Form) : Type 0 where
+  pub one : size ≡ 1
+  pub form_is : form ≡ Word op low high
 
 of_one : (op : BinaryOp) (size : ℕ) (low high : OperandByte) (form : Form) (b : Bool) → (size == 1) ≡ b → (if b then Some (Word op low high) else None) ≡ Some form → IsWordForm op size low high form
 of_one op size low high form true e h = record { one = eqb-true size 1 e; form_is = cc }
 of_one op size low high form false e h = absurd (cc)
 
-word_form_is : (op : BinaryOp) (size : ℕ) (low high : OperandByte) (form : Form) → IsSum op → element_form op size low high ≡ Some form → IsWordForm op size low high form
+pub word_form_is : (op : BinaryOp) (size : ℕ) (low high : OperandByte) (form : Form) → IsSum op → element_form op size low high ≡ Some form → IsWordForm op size low high form
 word_form_is ops.Add size low high form o h = of_one ops.Add size low high form (size == 1) refl h
 word_form_is ops.Sub size low high form o h = of_one ops.Sub size low high form (size == 1) refl h
 word_form_is _ size low high form o h = absurd o
@@ -62,7 +62,7 @@ sums_take ops.Add o = refl
 sums_take ops.Sub o = refl
 sums_take _ o = absurd o
 
-same_form : (x y : Form) → Some x ≡ Some y → y ≡ x
+pub same_form : (x y : Form) → Some x ≡ Some y → y ≡ x
 same_form x y e = cc
 
 -- ---- by the operands

@@ -30,7 +30,8 @@ use Rattle.c65_agree_put.proofs.Fits.{may_fit}
 use Rattle.c65_agree_operate_bytes.specs.Laws.{IsSum}
 use Rattle.c65_agree_operate_bytes.proofs.Rights.{HasPair}
 use Rattle.c65_agree_pointers.specs.Sums.{Summing, pointer_first, pointer_last, pointers}
-use Rattle.c65_agree_pointers.proofs.Moved.{IsMoved, IsSummed, pointer_summed, number_summed}
+use Rattle.c65_agree_pointers.proofs.Moved.{IsSummed, pointer_summed, number_summed}
+use Rattle.c65_agree_store.proofs.Moved.{IsMoved}
 use Rattle.c65_agree_pointers.proofs.Apart.{AreApart, are_apart, same_block}
 use Rattle.c65_agree_pointers.proofs.Walks.{GivesFit}
 

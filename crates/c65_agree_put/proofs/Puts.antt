@@ -9,7 +9,7 @@ use Rattle.c65_meaning.specs.State.{Scene, rest_in, hard_sum}
 use Rattle.c65_csem.specs.Places.{is_fixed_object}
 use Rattle.c65_code.specs.LineState.{State, sp_of, s_of}
 use Rattle.c65_code.specs.Placement.{IsPlacement, stack_start}
-use Rattle.c65_agree_store.specs.Stands.{Spot, At, Banked, Placing, Banks, IsAt, LiesIn, IsFree, beyond, byte_in}
+use Rattle.c65_agree_store.specs.Stands.{Spot, At, Banked, Placing, Banks, IsAt, LiesIn, IsFree, beyond, byte_in, stored_at}
 use Rattle.c65_agree_store.specs.Laws.{with_cells, ArePut}
 use Rattle.c65_agree_store.proofs.Keep.{block_same, block_other, stores_go_on_standing}
 use Rattle.c65_agree_state.specs.World.{World, Active, unit_in}
@@ -17,8 +17,7 @@ use Rattle.c65_agree_state.specs.Fixed.{symbol_at, HasFor}
 use Rattle.c65_agree_state.specs.Joins.{Joins, IsRest, IsOfCall, HasBlock, HasBank}
 use Rattle.c65_agree_state.specs.Exprs.{bounds_of}
 use Rattle.c65_agree_state.proofs.Scratch.{constants_are_low}
-use Rattle.c65_agree_state.proofs.Parts.{lives_by}
-use Rattle.c65_agree_places.specs.Places.{stored_at}
+use Rattle.c65_agree_state.proofs.Parts.{lives_by, sizes_stay, sized_stay}
 use Rattle.c65_agree_put.specs.Puts.{IsBeside, OnlyStored, AreLaid, IsOwn, IsNoConstant, MayPut, with_put, AreBanks, banks_in}
 use Rattle.c65_agree_put.specs.Laws.{PutsJoin, PutsAreKept, PutsAreTaken, BanksFollow, WaitingIsKept}
 
@@ -192,6 +191,8 @@ module _ (g : World) (a : Active) (placed : IsPlacement g.code g.place) (c : Sce
     bank = banks.now;
     symbols = j.symbols;
     fixed = record { own = fixed_stay; objects = j.fixed.objects; once = j.fixed.once };
+    sizes = sizes_stay (unit_in g) c.store (set_block c.store b (with_cells x o n new)) c.next c.next (omega arith) (λ d lt. bounds_stay c w b x q o n new m.block d) j.sizes;
+    sized = sized_stay (unit_in g) c (with_put c b x o n new) refl (λ i d e. bounds_stay c w b x q o n new m.block d) j.sized;
     fresh = j.fresh;
     homes = j.homes;
     rests = rests_stay;
@@ -214,6 +215,7 @@ module _ (g : World) (a : Active) (placed : IsPlacement g.code g.place) (c : Sce
     hard = hard;
     frames = s.frames ∙ j.frames;
     input = s.input ∙ j.input;
+    read = j.read;
     output = s.output ∙ j.output;
     ended = s.ended ∙ j.ended;
     bytes = s.bytes;

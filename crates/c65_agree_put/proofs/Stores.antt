@@ -17,8 +17,8 @@ use Rattle.c65_agree_state.specs.Exprs.{Ready}
 use Rattle.c65_agree_state.specs.Laws.{HasStacks}
 use Rattle.c65_agree_state.proofs.Followed.{ready_is_calm}
 use Rattle.c65_agree_numbers.proofs.Tests.{at_most}
-use Rattle.c65_agree_rows.specs.Rows.{IsQuiet, AreAt}
-use Rattle.c65_agree_rows.proofs.Quiet.{append_nothing, write_other, listed_are_at, in_range, quiet_row, runs_by}
+use Rattle.c65_agree_rows.specs.Rows.{IsQuiet}
+use Rattle.c65_agree_rows.proofs.Quiet.{append_nothing, write_other, item_is, listed_are_at, in_range, quiet_row, runs_by}
 use Rattle.c65_agree_put.specs.Puts.{OnlyStored, AreLaid, MayPut, Storing, WordByY, WordAtSp, LongByY, ByteThrough, WordThrough, LongThrough, storing_of, stored_size, taken_by, GoesTo, Stays, IsStored, AreBanks}
 use Rattle.c65_agree_put.specs.Laws.{StoresRun}
 use Rattle.c65_agree_put.proofs.Puts.{banks_follow, puts_are_taken}
@@ -28,16 +28,6 @@ use Rattle.c65_agree_put.proofs.Puts.{banks_follow, puts_are_taken}
 pub listed_other : (m : Bytes) (vs : List ℕ) (at n : ℕ) → ((i : ℕ) → i < length vs → at + i ≡ n → ⊥) → written m (listed vs at) n ≡ m n
 listed_other m [] at n h = refl
 listed_other m (v ∷ vs) at n h = listed_other (write m at v) vs (at + 1) n (λ i lt e. h (suc i) (omega (arith, lt)) (omega (arith, e))) ∙ write_other m at v n (λ e. h 0 (omega arith) (omega (arith, e)))
-
-pub item_is : (m : Bytes) (vs : List ℕ) (at i v : ℕ) → AreAt m at vs → slice_get vs i ≡ Some v → m (at + i) ≡ v
-item_is m [] at i v h e = cc
-item_is m (x ∷ vs) at zero v h e =
-    let same : x ≡ v = cc in
-    let here : at + 0 ≡ at = omega arith in
-    ap m here ∙ h.0 ∙ same
-item_is m (x ∷ vs) at (suc i) v h e =
-    let onward : at + suc i ≡ at + 1 + i = omega arith in
-    ap m onward ∙ item_is m vs (at + 1) i v h.1 e
 
 -- the bytes that a routine stores are those of EAX
 abbrev stored_bytes : Storing → State → List ℕ

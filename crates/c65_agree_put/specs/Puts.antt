@@ -6,12 +6,11 @@ use Rattle.c65_code.specs.declared.routine.Routine.{Routine}
 use Rattle.c65_code.specs.declared.routine.Routine.TheVariants as routines
 use Rattle.c65_code.specs.LineState.{State, word_at, sp_of, ax_of, eax_of, IsBytes}
 use Rattle.c65_code.specs.Placement.{stack_start}
-use Rattle.c65_agree_store.specs.Stands.{Spot, At, Banked, Placing, Banks, CellIs, IsAt, IsFree, beyond}
+use Rattle.c65_agree_store.specs.Stands.{Spot, At, Banked, Placing, Banks, CellIs, IsAt, IsFree, beyond, stored_at}
 use Rattle.c65_agree_store.specs.Laws.{with_cells}
 use Rattle.c65_agree_state.specs.World.{World, Active}
 use Rattle.c65_agree_state.specs.Joins.{HasBank}
 use Rattle.c65_agree_state.specs.Exprs.{Ready, bounds_of}
-use Rattle.c65_agree_places.specs.Places.{stored_at}
 
 -- ---- the machine
 

@@ -1,223 +1,118 @@
--- The entry of a function that has parameters in regbank.
-use Rattle.std.proofs.Common.{◌≡◌, ℕ, zero, suc, ◌+◌, ◌*◌, ◌<◌, ◌≤◌, ◌⊎◌, inl, inr, Bool, true, false, List, [], ◌++◌, length, Option, Some, None, refl, sym, ap, ◌∙◌, subst, arith, append_assoc}
-use Rattle.std.specs.Prelude.{if◌then◌else◌}
-use Rattle.c65_code.specs.declared.line.Line.{Line}
-use Rattle.c65_code.specs.LineState.{State, sp_of, s_of, IsBytes}
-use Rattle.c65_code.specs.Placement.{IsPlacement, stack_start}
+-- The entry of a function, whether or not it checks the stacks.
+use Rattle.std.proofs.Common.{◌≡◌, ℕ, zero, suc, ◌+◌, ◌<◌, ◌≤◌, ◌⊎◌, inl, ◌++◌, Option, None, Some, length, refl, sym, ap, ◌∙◌, subst, arith}
+use Rattle.c65_code.specs.LineState.{State, sp_of, s_of, eax_of, IsBytes}
+use Rattle.c65_code.specs.Placement.{IsPlacement, stack_start, stack_end}
 use Rattle.c65_genframe.specs.declared.home.Arrival.{Arrival}
 use Rattle.c65_genframe.specs.declared.home.Arrival.TheVariants.{Passed, Pushed, Kept}
-use Rattle.c65_genframe.specs.declared.home.Moved.{Moved}
 use Rattle.c65_genframe.specs.Frames.{Framed, saved_bytes}
-use Rattle.c65_genentry.specs.Stack.{lower_code}
-use Rattle.c65_genentry.specs.Entry.{pushed_code, kept_code, bank_store, saved_code, counted_code, count_code, all_moved, raised_moves, taken_bytes, checked_code, entry_code}
+use Rattle.c65_genentry.specs.Entry.{checked_code, taking_code, entry_code}
 use Rattle.c65_agree_state.specs.World.{World, Active}
 use Rattle.c65_agree_rows.specs.Rows.{AreAt}
-use Rattle.c65_agree_rows.proofs.Quiet.{are_at_in}
-use Rattle.c65_agree_frame.specs.Leads.{Leads, IsOn, IsLower, IsSaved}
-use Rattle.c65_agree_frame.specs.Laws.{move_cost}
-use Rattle.c65_agree_frame.specs.Entries.{arriving, HasTaken, entry_cost}
+use Rattle.c65_agree_frame.specs.Leads.{Leads, IsOn}
+use Rattle.c65_agree_frame.specs.Entries.{arriving}
 use Rattle.c65_agree_frame.proofs.Leads.{leads_then, leads_as, stays_on}
-use Rattle.c65_agree_frame.proofs.Stack.{on_behind, stacks_are_lowered}
-use Rattle.c65_agree_frame.proofs.Banks.{saved_few, banks_are_saved}
-use Rattle.c65_agree_frame.proofs.Entries.{append_end, entries_lead}
-use Rattle.c65_agree_registers.specs.Entries.{IsFixedFrame, IsBanked, IsBeside, HasMoves, IsKeptBeside, IsKept, register_byte, IsBesideLast, HasMoved, register_cost, EntriesMove}
-use Rattle.c65_agree_registers.proofs.Loads.{Remains, remains_on}
-use Rattle.c65_agree_registers.proofs.Moves.{of_six, IsStored, stores_lead, AllMoved, moves_lead}
+use Rattle.c65_agree_frame.proofs.Banks.{saved_few}
+use Rattle.c65_agree_registers.specs.Checks.{IsChecked, check_cost, asked_by, StacksReach, checking_cost}
+use Rattle.c65_agree_registers.specs.Entries.{register_byte, IsKept, HasMoved, moving_cost, register_cost, EntriesMove}
+use Rattle.c65_agree_registers.proofs.Check.{stacks_are_checked}
+use Rattle.c65_agree_registers.proofs.Unchecked.{unchecked_entries_move}
 
--- what an entry leaves as it is
-record Holds (t u : State) : Type 0 where
-  mem : (n : ℕ) → (n < stack_start) ⊎ (sp_of t ≤ n) → u.mem n ≡ t.mem n
-  pushed : u.pushed ≡ t.pushed
-  frames : u.frames ≡ t.frames
-  input : u.input ≡ t.input
-  output : u.output ≡ t.output
-  ended : u.ended ≡ t.ended
-  bytes : IsBytes u
+-- ---- the check, and what comes behind it
 
--- ---- the lines
+abbrev pub unchecked : Framed → Framed
+unchecked f = record f { check = None }
 
--- all that comes before the moves
-abbrev before : Framed → Framed
-before f = record f { moved = [] }
+nothing_checked : (t : State) → IsBytes t → IsChecked t t
+nothing_checked t b = record { sp = refl; value = refl; count = refl; bank = λ i lt. refl; mem = λ n side. refl; pushed = refl; frames = refl; input = refl; output = refl; ended = refl; bytes = b }
 
-split : (check : Option ℕ) (last : Arrival) (variadic : Bool) (bank soft stacked : ℕ) (moved : List Moved) → check ≡ None → variadic ≡ false
-    → checked_code check ++ (pushed_code last ++ (counted_code variadic ++ (saved_code bank ++ ((if variadic then raised_moves soft stacked moved else []) ++ (kept_code last ++ (lower_code (taken_bytes variadic soft) ++ (count_code variadic ++ (if variadic then [] else all_moved moved))))))))
-    ≡ (pushed_code last ++ (saved_code bank ++ (kept_code last ++ lower_code soft))) ++ all_moved moved
-split (Some n) last variadic bank soft stacked moved c v = cc
-split None last true bank soft stacked moved c v = cc
-split None last false bank soft stacked moved c v =
-    let inner : (saved_code bank ++ (kept_code last ++ lower_code soft)) ++ all_moved moved ≡ saved_code bank ++ (kept_code last ++ (lower_code soft ++ all_moved moved)) =
-    append_assoc (saved_code bank) (kept_code last ++ lower_code soft) (all_moved moved) ∙ ap (λ ls. saved_code bank ++ ls) (append_assoc (kept_code last) (lower_code soft) (all_moved moved)) in
-    sym (append_assoc (pushed_code last) (saved_code bank ++ (kept_code last ++ lower_code soft)) (all_moved moved) ∙ ap (λ ls. pushed_code last ++ ls) inner)
+-- Where the lines of an entry that checks nothing lead on from each state that the check leaves, those of this one do.
+pub checks_go_before : (g : World) (a : Active) (w : ℕ) (t : State) (Behind : State → Type 0) → IsPlacement g.code g.place → IsOn g t → StacksReach a.frame.check t
+    → ((u : State) → IsChecked t u → IsOn g u → Leads g (record a { frame = unchecked a.frame }) (entry_code (unchecked a.frame)) w u Behind)
+    → Leads g a (entry_code a.frame) (checking_cost a.frame.check + w) t Behind
+checks_go_before g a w t Behind placed on reach leads = go a.frame.check refl reach
+  where
+    behind : (u : State) → IsChecked t u → IsOn g u
+    behind u c =
+        let same : s_of u ≡ s_of t = rw (c.pushed, c.frames) refl in
+        stays_on g placed t u on (λ n lt. c.mem n (inl lt)) (omega (arith, c.sp, on.stacks.soft)) (omega (arith, c.sp, on.stacks.calm.high)) (omega (arith, same, on.stacks.hard)) (c.ended ∙ on.running) c.bytes
 
-abbrev taking : Framed → List Line
-taking f = pushed_code f.last ++ (saved_code f.bank ++ (kept_code f.last ++ lower_code f.soft))
+    go : (o : Option ℕ) → a.frame.check ≡ o → StacksReach o t → Leads g a (entry_code a.frame) (checking_cost a.frame.check + w) t Behind
+    go None is enough =
+        let code : entry_code a.frame ≡ entry_code (unchecked a.frame) = ap (λ x. checked_code x ++ taking_code a.frame) is in
+        let none : checking_cost a.frame.check ≡ 0 = ap checking_cost is in
+        let cost : w ≡ checking_cost a.frame.check + w = omega (arith, none) in
+        subst (λ ls. Leads g a ls (checking_cost a.frame.check + w) t Behind) (sym code)
+        (subst (λ n. Leads g a (entry_code (unchecked a.frame)) n t Behind) cost (leads t (nothing_checked t on.stacks.calm.bytes) on))
+    go (Some asked) is enough =
+        let code : entry_code a.frame ≡ checked_code (Some asked) ++ taking_code a.frame = ap (λ x. checked_code x ++ taking_code a.frame) is in
+        let cost : check_cost + w ≡ checking_cost a.frame.check + w = ap (λ x. checking_cost x + w) (sym is) in
+        subst (λ ls. Leads g a ls (checking_cost a.frame.check + w) t Behind) (sym code)
+        (subst (λ n. Leads g a (checked_code (Some asked) ++ taking_code a.frame) n t Behind) cost
+        (leads_then g a (checked_code (Some asked)) (taking_code a.frame) check_cost w t (IsChecked t) Behind (stacks_are_checked g a asked t placed on enough) (λ u c. leads u c (behind u c))))
 
-entry_is : (f : Framed) → IsFixedFrame f → entry_code f ≡ taking f ++ all_moved f.moved
-entry_is f h = split f.check f.last f.variadic f.bank f.soft f.stacked f.moved h.unchecked h.fixed
+-- the check weighs no more than this
+pub checks_are_cheap : (check : Option ℕ) → checking_cost check ≤ check_cost
+checks_are_cheap None = omega arith
+checks_are_cheap (Some asked) = omega arith
 
-taking_is : (f : Framed) → IsFixedFrame f → entry_code (before f) ≡ taking f
-taking_is f h = entry_is (before f) (record { unchecked = h.unchecked; fixed = h.fixed }) ∙ append_end (taking f)
+-- The stacks reach for what an entry asks, where the costs of all active calls are enough for it and not too many.
+pub costs_reach : (check : Option ℕ) (t : State) (cost : ℕ) → stack_end + asked_by check ≤ sp_of t + cost → cost ≤ 1984 → sp_of t ≤ stack_end → 31 ≤ s_of t → StacksReach check t
+costs_reach None t cost enough few high hard = tt
+costs_reach (Some asked) t cost enough few high hard = record { few = omega (arith, enough, few, high); soft = omega (arith, enough, few); hard = hard }
 
-module _ (g : World) (a : Active) (t : State) (placed : IsPlacement g.code g.place) (on : IsOn g t) (is : IsFixedFrame a.frame) (low : stack_start + 64 + (a.frame.soft + (saved_bytes a.frame.bank + length (arriving a.frame.last t))) ≤ sp_of t) where
-  abbrev f : Framed
-  f = a.frame
+-- ---- the last parameter is there still
 
-  -- ---- where none stays in registers
+same_a : (t u : State) → IsBytes t → IsBytes u → eax_of u ≡ eax_of t → u.regs.a ≡ t.regs.a
+same_a t u b d e = omega (arith, e, b.a, d.a, b.x, d.x)
 
-  not_kept : ((bank bytes : ℕ) → f.last ≡ Kept bank bytes → ⊥) → Leads g a (taking f) (entry_cost f) t (HasMoved (before f) t)
-  not_kept none =
-      subst (λ ls. Leads g a ls (entry_cost f) t (HasMoved (before f) t)) (taking_is f is)
-      (leads_as g a (entry_code (before f)) (entry_cost f) (entry_cost f) t (HasTaken (before f) t) (HasMoved (before f) t) (omega arith) (λ u h. taken u h)
-      (entries_lead g (record a { frame = before f }) t placed on (record { unchecked = is.unchecked; plain = is.fixed; none_moved = refl; none_kept = none }) low))
-    where
-      kept_by : (last : Arrival) (u : State) → ((bank bytes : ℕ) → last ≡ Kept bank bytes → ⊥) → IsKept last t u
-      kept_by Passed u none = tt
-      kept_by (Pushed bytes) u none = tt
-      kept_by (Kept bank bytes) u none = absurd (none bank bytes refl)
+same_x : (t u : State) → IsBytes t → IsBytes u → eax_of u ≡ eax_of t → u.regs.x ≡ t.regs.x
+same_x t u b d e = omega (arith, e, b.a, d.a, b.x, d.x)
 
-      taken : (u : State) → HasTaken (before f) t u → HasMoved (before f) t u
-      taken u h = record {
-        sp = h.sp;
-        arrived = h.arrived;
-        saved = h.saved;
-        moved = tt;
-        kept = kept_by f.last u none;
-        others = λ i lt last all. h.bank i lt;
-        mem = h.mem;
-        pushed = h.pushed;
-        frames = h.frames;
-        input = h.input;
-        output = h.output;
-        ended = h.ended;
-        bytes = h.bytes;
-      }
+same_arriving : (last : Arrival) (t u : State) → IsBytes t → IsBytes u → eax_of u ≡ eax_of t → arriving last u ≡ arriving last t
+same_arriving Passed t u b d e = refl
+same_arriving (Kept bank bytes) t u b d e = refl
+same_arriving (Pushed bytes) t u b d e =
+    let low : u.zp 2 ≡ t.zp 2 = omega (arith, e, b.a, d.a, b.x, d.x, b.zp 2, d.zp 2) in
+    let high : u.zp 3 ≡ t.zp 3 = omega (arith, e, b.a, d.a, b.x, d.x, b.zp 2, d.zp 2) in
+    rw (same_a t u b d e, same_x t u b d e, low, high) refl
 
-  -- ---- where the last one does
+same_register : (t u : State) (i : ℕ) → IsBytes t → IsBytes u → eax_of u ≡ eax_of t → register_byte i u ≡ register_byte i t
+same_register t u zero b d e = same_a t u b d e
+same_register t u (suc i) b d e = same_x t u b d e
 
-  module _ (bank bytes : ℕ) (banked : IsBanked (saved_bytes f.bank) bank bytes) where
-    abbrev keeps : List Line
-    keeps = saved_code f.bank ++ (bank_store bank bytes ++ lower_code f.soft)
+kept_from : (last : Arrival) (t u v : State) → IsBytes t → IsBytes u → eax_of u ≡ eax_of t → IsKept last u v → IsKept last t v
+kept_from Passed t u v b d e h = tt
+kept_from (Pushed bytes) t u v b d e h = tt
+kept_from (Kept bank bytes) t u v b d e h = λ i lt. h i lt ∙ same_register t u i b d e
 
-    -- what stands behind these lines
-    record HasKept (u : State) : Type 0 where
-      sp : sp_of u + (f.soft + saved_bytes f.bank) ≡ sp_of t
-      saved : (i : ℕ) → i < saved_bytes f.bank → u.mem (sp_of u + f.soft + i) ≡ t.zp (20 + i)
-      kept : (i : ℕ) → i < bytes → u.zp (20 + (bank + i)) ≡ register_byte i t
-      others : (i : ℕ) → i < 6 → IsBeside i bank bytes → u.zp (20 + i) ≡ t.zp (20 + i)
-      stays : Holds t u
+-- what was taken behind the check was taken from before it
+taken_from : (f : Framed) (t u v : State) → IsBytes t → IsChecked t u → HasMoved (unchecked f) u v → HasMoved f t v
+taken_from f t u v b c h =
+    let same : arriving f.last u ≡ arriving f.last t = same_arriving f.last t u b c.bytes c.value in
+    let long : length (arriving f.last u) ≡ length (arriving f.last t) = ap length same in
+    record {
+      sp = omega (arith, h.sp, c.sp, long);
+      arrived = subst (AreAt v.mem (sp_of v + (f.soft + saved_bytes f.bank))) same h.arrived;
+      saved = λ i lt. h.saved i lt ∙ c.bank i (omega (arith, lt, saved_few f.bank));
+      moved = h.moved;
+      kept = kept_from f.last t u v b c.bytes c.value h.kept;
+      others = λ i lt last moves. h.others i lt last moves ∙ c.bank i lt;
+      mem = λ n side. h.mem n (subst (λ q. (n < stack_start) ⊎ (q ≤ n)) (sym c.sp) side) ∙ c.mem n side;
+      pushed = h.pushed ∙ c.pushed;
+      frames = h.frames ∙ c.frames;
+      input = h.input ∙ c.input;
+      output = h.output ∙ c.output;
+      ended = h.ended ∙ c.ended;
+      bytes = h.bytes;
+    }
 
-    keeps_lead : stack_start + 64 + (f.soft + saved_bytes f.bank) ≤ sp_of t → Leads g a keeps (entry_cost f) t HasKept
-    keeps_lead room =
-        leads_as g a keeps (256 + (2 + move_cost f.soft)) (entry_cost f) t HasKept HasKept (omega arith) (λ u h. h)
-        (leads_then g a (saved_code f.bank) (bank_store bank bytes ++ lower_code f.soft) 256 (2 + move_cost f.soft) t (IsSaved (saved_bytes f.bank) t) HasKept (banks_are_saved g a f.bank t placed on (omega (arith, room))) (λ u s.
-        let on1 = on_behind g (sp_of t) t u placed on s.lower.stays (omega (arith, s.lower.sp, room)) (omega (arith, s.lower.sp, on.stacks.calm.high)) in
-        leads_then g a (bank_store bank bytes) (lower_code f.soft) 2 (move_cost f.soft) u (IsStored bank bytes u) HasKept (stores_lead g a placed bank bytes u on1 (of_six (saved_bytes f.bank) bank bytes (saved_few f.bank) banked)) (λ v k.
-        leads_as g a (lower_code f.soft) (move_cost f.soft) (move_cost f.soft) v (IsLower f.soft v) HasKept (omega arith) (λ w l. all u v w s k l)
-        (stacks_are_lowered g a f.soft v placed (remains_on g a placed u v on1 k.remains) (omega (arith, k.remains.sp, s.lower.sp, room))))))
-      where
-        -- A and X are as before while regbank is saved
-        same : (u : State) → IsSaved (saved_bytes f.bank) t u → (i : ℕ) → register_byte i u ≡ register_byte i t
-        same u s zero = omega (arith, s.lower.stays.value, s.lower.stays.bytes.a, s.lower.stays.bytes.x, on.stacks.calm.bytes.a, on.stacks.calm.bytes.x)
-        same u s (suc i) = omega (arith, s.lower.stays.value, s.lower.stays.bytes.a, s.lower.stays.bytes.x, on.stacks.calm.bytes.a, on.stacks.calm.bytes.x)
-
-        all : (u v w : State) → IsSaved (saved_bytes f.bank) t u → IsStored bank bytes u v → IsLower f.soft v w → HasKept w
-        all u v w s k l = record {
-          sp = omega (arith, l.sp, k.remains.sp, s.lower.sp);
-          saved = λ i lt.
-              let at : sp_of w + f.soft + i ≡ sp_of u + i = omega (arith, l.sp, k.remains.sp) in
-              ap w.mem at ∙ (l.stays.mem (sp_of u + i) (inr (omega (arith, k.remains.sp))) ∙ (k.remains.mem (sp_of u + i) (inr (omega arith)) ∙ s.saved i lt));
-          kept = λ i lt. l.bank (bank + i) (omega (arith, lt, banked.within, saved_few f.bank)) ∙ (k.there i lt ∙ same u s i);
-          others = λ i lt beside. l.bank i lt ∙ (k.others i lt beside ∙ s.lower.bank i lt);
-          stays = record {
-            mem = λ n side. l.stays.mem n (lower n side) ∙ (k.remains.mem n (middle n side) ∙ s.lower.stays.mem n side);
-            pushed = l.stays.pushed ∙ (k.remains.pushed ∙ s.lower.stays.pushed);
-            frames = l.stays.frames ∙ (k.remains.frames ∙ s.lower.stays.frames);
-            input = l.stays.input ∙ (k.remains.input ∙ s.lower.stays.input);
-            output = l.stays.output ∙ (k.remains.output ∙ s.lower.stays.output);
-            ended = l.stays.ended ∙ (k.remains.ended ∙ s.lower.stays.ended);
-            bytes = l.stays.bytes;
-          };
-        }
-          where
-            middle : (n : ℕ) → (n < stack_start) ⊎ (sp_of t ≤ n) → (n < stack_start) ⊎ (sp_of u ≤ n)
-            middle n (inl lt) = inl lt
-            middle n (inr le) = inr (omega (arith, le, s.lower.sp))
-
-            lower : (n : ℕ) → (n < stack_start) ⊎ (sp_of t ≤ n) → (n < stack_start) ⊎ (sp_of v ≤ n)
-            lower n (inl lt) = inl lt
-            lower n (inr le) = inr (omega (arith, le, s.lower.sp, k.remains.sp))
-
-    kept : f.last ≡ Kept bank bytes → Leads g a (taking f) (entry_cost f) t (HasMoved (before f) t)
-    kept e =
-        subst (λ last. Leads g a (pushed_code last ++ (saved_code f.bank ++ (kept_code last ++ lower_code f.soft))) (entry_cost f) t (HasMoved (before f) t)) (sym e)
-        (leads_as g a keeps (entry_cost f) (entry_cost f) t HasKept (HasMoved (before f) t) (omega arith) (λ u h. moved u h) (keeps_lead (omega (arith, low))))
-      where
-        none : length (arriving f.last t) ≡ 0
-        none = ap (λ last. length (arriving last t)) e
-
-        moved : (u : State) → HasKept u → HasMoved (before f) t u
-        moved u h = record {
-          sp = omega (arith, h.sp, none);
-          arrived = subst (λ last. AreAt u.mem (sp_of u + (f.soft + saved_bytes f.bank)) (arriving last t)) (sym e) tt;
-          saved = h.saved;
-          moved = tt;
-          kept = subst (λ last. IsKept last t u) (sym e) h.kept;
-          others = λ i lt beside all. h.others i lt (subst (λ last. IsBesideLast i last) e beside);
-          mem = h.stays.mem;
-          pushed = h.stays.pushed;
-          frames = h.stays.frames;
-          input = h.stays.input;
-          output = h.stays.output;
-          ended = h.stays.ended;
-          bytes = h.stays.bytes;
-        }
-
-  -- ---- both, and the moves
-
-  taking_leads : (last : Arrival) → f.last ≡ last → IsKeptBeside (saved_bytes f.bank) last f.moved → Leads g a (taking f) (entry_cost f) t (HasMoved (before f) t)
-  taking_leads Passed e beside = not_kept (λ bank bytes h. let clash : Passed ≡ Kept bank bytes = sym e ∙ h in cc)
-  taking_leads (Pushed n) e beside = not_kept (λ bank bytes h. let clash : Pushed n ≡ Kept bank bytes = sym e ∙ h in cc)
-  taking_leads (Kept bank bytes) e beside = kept bank bytes beside.0 e
-
-  on_then : (u : State) → HasMoved (before f) t u → IsOn g u
-  on_then u h =
-      let same : s_of u ≡ s_of t = rw (h.pushed, h.frames) refl in
-      stays_on g placed t u on (λ n lt. h.mem n (inl lt)) (omega (arith, h.sp, low)) (omega (arith, h.sp, on.stacks.calm.high)) (omega (arith, same, on.stacks.hard)) (h.ended ∙ on.running) h.bytes
-
-  all_moved_to : HasMoves f → (u v : State) → HasMoved (before f) t u → AllMoved f.moved u v → HasMoved f t v
-  all_moved_to has u v h m =
-      let r : Remains u v = m.remains in
-      record {
-        sp = omega (arith, r.sp, h.sp);
-        arrived = subst (λ n. AreAt v.mem (n + (f.soft + saved_bytes f.bank)) (arriving f.last t)) (sym r.sp) (are_at_in u.mem v.mem (arriving f.last t) (sp_of u + (f.soft + saved_bytes f.bank)) (λ n le. r.mem n (inr (omega (arith, le)))) h.arrived);
-        saved = λ i lt. let at : sp_of v + f.soft + i ≡ sp_of u + f.soft + i = omega (arith, r.sp) in ap v.mem at ∙ (r.mem (sp_of u + f.soft + i) (inr (omega arith)) ∙ h.saved i lt);
-        moved = m.moved;
-        kept = kept_on f.last has.kept h.kept;
-        others = λ i lt last all. m.others i lt all ∙ h.others i lt last tt;
-        mem = λ n side. r.mem n (lower n side) ∙ h.mem n side;
-        pushed = r.pushed ∙ h.pushed;
-        frames = r.frames ∙ h.frames;
-        input = r.input ∙ h.input;
-        output = r.output ∙ h.output;
-        ended = r.ended ∙ h.ended;
-        bytes = r.bytes;
-      }
-    where
-      lower : (n : ℕ) → (n < stack_start) ⊎ (sp_of t ≤ n) → (n < stack_start) ⊎ (sp_of u ≤ n)
-      lower n (inl lt) = inl lt
-      lower n (inr le) = inr (omega (arith, le, h.sp))
-
-      kept_on : (last : Arrival) → IsKeptBeside (saved_bytes f.bank) last f.moved → IsKept last t u → IsKept last t v
-      kept_on Passed beside k = tt
-      kept_on (Pushed n) beside k = tt
-      kept_on (Kept bank bytes) beside k = λ i lt. m.others (bank + i) (omega (arith, lt, beside.0.within, saved_few f.bank)) (beside.1 i lt) ∙ k i lt
+-- ---- the entry
 
 pub entries_move : EntriesMove
-entries_move g a t placed on is has low high =
-    let f : Framed = a.frame in
-    let top : ℕ = f.soft + saved_bytes f.bank + f.stacked in
-    subst (λ ls. Leads g a ls (register_cost f) t (HasMoved f t)) (sym (entry_is f is))
-    (leads_then g a (taking f) (all_moved f.moved) (entry_cost f) (266 * length f.moved) t (HasMoved (before f) t) (HasMoved f t) (taking_leads g a t placed on is low f.last refl has.kept) (λ u h.
-    leads_as g a (all_moved f.moved) (266 * length f.moved) (266 * length f.moved) u (AllMoved f.moved u) (HasMoved f t) (omega arith) (λ v m. all_moved_to g a t placed on is low has u v h m)
-    (moves_lead g a placed f.moved (saved_bytes f.bank) (f.soft + saved_bytes f.bank) top u (saved_few f.bank) (on_then g a t placed on is low u h) has.moves (omega (arith, h.sp, high)))))
+entries_move g a t placed on fixed reach has room top =
+    checks_go_before g a (moving_cost a.frame) t (HasMoved a.frame t) placed on reach (λ u c there.
+    leads_as g (record a { frame = unchecked a.frame }) (entry_code (unchecked a.frame)) (moving_cost a.frame) (moving_cost a.frame) u (HasMoved (unchecked a.frame) u) (HasMoved a.frame t) (omega arith) (λ v h. taken_from a.frame t u v on.stacks.calm.bytes c h)
+    (unchecked_entries_move g (record a { frame = unchecked a.frame }) u placed there (record { unchecked = refl; fixed = fixed }) (record { moves = has.moves; kept = has.kept }) (omega (arith, long u c, c.sp, room)) (omega (arith, long u c, c.sp, top))))
+  where
+    long : (u : State) → IsChecked t u → length (arriving a.frame.last u) ≡ length (arriving a.frame.last t)
+    long u c = ap length (same_arriving a.frame.last t u on.stacks.calm.bytes c.bytes c.value)

@@ -1,6 +1,6 @@
-pub mod Calls
+pub mod Addresses
+pub mod Check
 pub mod Entries
-pub mod Frames
 pub mod Loads
 pub mod Moves
-pub mod Passed
+pub mod Unchecked

@@ -1,11 +1,11 @@
 -- The bytes of a parameter go from the software stack to A and X.
-use Rattle.std.proofs.Common.{◌≡◌, ℕ, ◌+◌, ◌-◌, ◌*◌, ◌/◌, ◌%◌, ◌<◌, ◌≤◌, ◌⊎◌, inl, inr, Bool, true, false, List, [], ◌∷◌, ◌++◌, refl, sym, ap, ◌∙◌, subst, arith}
+use Rattle.std.proofs.Common.{◌≡◌, ℕ, ◌+◌, ◌-◌, ◌<◌, ◌≤◌, ◌⊎◌, inl, inr, Bool, true, false, List, [], ◌∷◌, ◌++◌, refl, sym, ap, ◌∙◌, subst, arith}
 use Rattle.std.specs.Prelude.{if◌then◌else◌, nat_lt, min, max, All}
 use Rattle.std.proofs.lemmas.Bool.{ltb-true, ltb-false}
 use Rattle.std.proofs.lemmas.List.Elements.{All-nil}
-use Rattle.c65_mach.specs.declared.rows.Op.TheVariants.{Adc, Clc, Lda, Ldy, Tax, Tay, Tya}
+use Rattle.c65_mach.specs.declared.rows.Op.TheVariants.{Lda, Ldy}
 use Rattle.c65_mach.specs.State.{Regs}
-use Rattle.c65_mach.specs.Step.{apply, after, bit}
+use Rattle.c65_mach.specs.Step.{apply, after}
 use Rattle.c65_code.specs.declared.routine.Routine.{Routine}
 use Rattle.c65_code.specs.declared.routine.Routine.TheVariants.{LdAxYSp, LdAi, LdAxi}
 use Rattle.c65_code.specs.declared.line.Line.{Line}
@@ -16,7 +16,8 @@ use Rattle.c65_code.specs.Rows.{Meets, row_of}
 use Rattle.c65_code.specs.Steady.{IsOpen, HasRoom}
 use Rattle.c65_code.specs.Weights.{row_cost}
 use Rattle.c65_genwide.specs.Lines.{value, call}
-use Rattle.c65_genentry.specs.Words.{sp, implied, zero_page, by_y}
+use Rattle.c65_genentry.specs.Words.{sp, by_y}
+use Rattle.c65_genload.specs.Addresses.{address_code}
 use Rattle.c65_genentry.specs.Entry.{near_load, far_load, load_code}
 use Rattle.c65_agree_state.specs.World.{World, Active}
 use Rattle.c65_agree_state.specs.Laws.{OnlyScratch}
@@ -26,6 +27,7 @@ use Rattle.c65_agree_rows.proofs.Families.{HasRow}
 use Rattle.c65_agree_rows.proofs.Loads.{near_rows, far_rows}
 use Rattle.c65_agree_frame.specs.Leads.{Leads, IsOn, SameBank}
 use Rattle.c65_agree_frame.proofs.Leads.{leads_then, leads_as, stays_on, kept_regs, after_lines, AreSafe, lines_lead, routine_leads}
+use Rattle.c65_agree_registers.proofs.Addresses.{address_regs, address_is, address_leads}
 
 -- sp and all from sp on are as before, and so is what no line of an entry changes
 pub record Remains (t u : State) : Type 0 where
@@ -66,14 +68,6 @@ record HasRun (Result : State → Type 0) (t u : State) : Type 0 where
   result : Result u
   scratch : OnlyScratch (sp_of t) t u
   sp_is : sp_of u ≡ sp_of t
-
--- the sum of two bytes and a carry
-carried : (s : ℕ) → s < 512 → s % 256 + 256 * bit (nat_lt 255 s) ≡ s
-carried s lt = go (nat_lt 255 s) refl
-  where
-    go : (b : Bool) → nat_lt 255 s ≡ b → s % 256 + 256 * bit b ≡ s
-    go true e = let over = ltb-true 255 s e in omega (arith, over, lt)
-    go false e = let under = ltb-false 255 s e in omega (arith, under)
 
 module _ (g : World) (a : Active) (placed : IsPlacement g.code g.place) where
   pub remains_on : (t u : State) → IsOn g t → Remains t u → IsOn g u
@@ -174,78 +168,20 @@ module _ (g : World) (a : Active) (placed : IsPlacement g.code g.place) where
     -- ---- far from sp
 
     abbrev sum_lines : List Line
-    sum_lines = implied Clc ∷ zero_page Lda sp ∷ value Adc (at % 256) ∷ implied Tay ∷ zero_page Lda (sp + 1) ∷ value Adc (at / 256) ∷ implied Tax ∷ implied Tya ∷ []
+    sum_lines = address_code at
 
-    abbrev r1 : Regs
-    r1 = apply false Clc 0 t.regs
-
-    abbrev r2 : Regs
-    r2 = apply false Lda (t.zp 0) r1
-
-    abbrev r3 : Regs
-    r3 = apply false Adc (at % 256) r2
-
-    abbrev r4 : Regs
-    r4 = apply false Tay 0 r3
-
-    abbrev r5 : Regs
-    r5 = apply false Lda (t.zp 1) r4
-
-    abbrev r6 : Regs
-    r6 = apply false Adc (at / 256) r5
-
-    abbrev r7 : Regs
-    r7 = apply false Tax 0 r6
-
-    abbrev r8 : Regs
-    r8 = apply false Tya 0 r7
+    abbrev sum_regs : Regs
+    sum_regs = address_regs t at
 
     abbrev sum_state : State
-    sum_state = record t { regs = r8 }
+    sum_state = record t { regs = sum_regs }
 
     sum_is : ax_of sum_state ≡ from
-    sum_is =
-        let bytes_are = on.stacks.calm.bytes in
-        let s0 : ℕ = t.zp 0 + at % 256 + 0 in
-        let c0 = carried s0 (omega (arith, bytes_are.zp 0)) in
-        omega (arith, c0, fits, some, bytes_are.zp 0, bytes_are.zp 1)
-
-    sum_safe : AreSafe g sum_lines t
-    sum_safe = (
-      refl,
-      tt,
-      omega arith,
-      kept_regs t r1,
-      (
-        refl,
-        (omega arith, λ w. absurd w),
-        tt,
-        kept_regs (record t { regs = r1 }) r2,
-        (
-          refl,
-          tt,
-          omega arith,
-          kept_regs (record t { regs = r2 }) r3,
-          (
-            refl,
-            tt,
-            omega arith,
-            kept_regs (record t { regs = r3 }) r4,
-            (
-              refl,
-              (omega arith, λ w. absurd w),
-              tt,
-              kept_regs (record t { regs = r4 }) r5,
-              (refl, tt, omega (arith, fits), kept_regs (record t { regs = r5 }) r6, (refl, tt, omega arith, kept_regs (record t { regs = r6 }) r7, (refl, tt, omega arith, kept_regs (record t { regs = r7 }) r8, tt))),
-            ),
-          ),
-        ),
-      ),
-    )
+    sum_is = address_is t at (on.stacks.calm.bytes.zp 0) (omega (arith, fits))
 
     far_leads : (r : Routine) → (IsBytes sum_state → Leads g a (call r ∷ []) 256 sum_state (IsLoaded bytes from t)) → Leads g a (sum_lines ++ call r ∷ []) 264 t (IsLoaded bytes from t)
     far_leads r h =
-        leads_then g a sum_lines (call r ∷ []) 8 256 t (λ u. (u ≡ sum_state) × IsBytes u) (IsLoaded bytes from t) (lines_lead g a sum_lines t placed on sum_safe)
+        leads_then g a sum_lines (call r ∷ []) 8 256 t (λ u. (u ≡ sum_state) × IsBytes u) (IsLoaded bytes from t) (address_leads t at g a placed on (omega (arith, fits)))
         (λ u e. subst (λ x. Leads g a (call r ∷ []) 256 x (IsLoaded bytes from t)) (sym e.0) (h (subst IsBytes e.0 e.1)))
 
     sum_on : IsBytes sum_state → IsOn g sum_state
@@ -257,13 +193,13 @@ module _ (g : World) (a : Active) (placed : IsPlacement g.code g.place) where
     byte_far : bytes < 2 → Leads g a (sum_lines ++ call LdAi ∷ []) 264 t (IsLoaded bytes from t)
     byte_far few = far_leads LdAi (λ b.
         leads_as g a (call LdAi ∷ []) 256 256 sum_state (HasRun (IsFarLoaded FarByte sum_state) sum_state) (IsLoaded bytes from t) (omega arith)
-        (λ u h. byte_in t r8 bytes from u few on.stacks.calm.bytes (record { result = h.result ∙ ap t.mem sum_is; scratch = h.scratch; sp_is = h.sp_is }))
+        (λ u h. byte_in t sum_regs bytes from u few on.stacks.calm.bytes (record { result = h.result ∙ ap t.mem sum_is; scratch = h.scratch; sp_is = h.sp_is }))
         (row_leads LdAi [] (range_of 1 (ax_of sum_state)) (IsFarLoaded FarByte sum_state) sum_state (sum_on b) (far_rows FarByte sum_state b) (All-nil (IsOpen g.place (sp_of t))) (opened 1 some) (omega arith)))
 
     word_far : 2 ≤ bytes → Leads g a (sum_lines ++ call LdAxi ∷ []) 264 t (IsLoaded bytes from t)
     word_far two = far_leads LdAxi (λ b.
         leads_as g a (call LdAxi ∷ []) 256 256 sum_state (HasRun (IsFarLoaded FarWord sum_state) sum_state) (IsLoaded bytes from t) (omega arith)
-        (λ u h. word_in t r8 bytes from u on.stacks.calm.bytes (record { result = h.result ∙ ap (word_at t.mem) sum_is; scratch = h.scratch; sp_is = h.sp_is }))
+        (λ u h. word_in t sum_regs bytes from u on.stacks.calm.bytes (record { result = h.result ∙ ap (word_at t.mem) sum_is; scratch = h.scratch; sp_is = h.sp_is }))
         (row_leads LdAxi [] (range_of 2 (ax_of sum_state)) (IsFarLoaded FarWord sum_state) sum_state (sum_on b) (far_rows FarWord sum_state b) (All-nil (IsOpen g.place (sp_of t))) (opened 2 two) (omega arith)))
 
     -- ---- both

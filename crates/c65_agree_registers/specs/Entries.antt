@@ -1,6 +1,6 @@
 -- What the entry of a function leaves of which parameters stand in regbank: those that came on the software stack are moved there, and the
 -- last one may stay in registers until then (docs/MACHINE.md, "Calls").
-use Rattle.std.specs.Prelude.{◌≡◌, ℕ, zero, suc, ◌+◌, ◌*◌, ◌<◌, ◌≤◌, ◌⊎◌, false, List, [], ◌∷◌, None, length}
+use Rattle.std.specs.Prelude.{◌≡◌, ℕ, zero, suc, ◌+◌, ◌*◌, ◌<◌, ◌≤◌, ◌⊎◌, false, List, [], ◌∷◌, length}
 use Rattle.c65_code.specs.LineState.{State, sp_of, IsBytes}
 use Rattle.c65_code.specs.Placement.{IsPlacement, stack_start, stack_end}
 use Rattle.c65_genframe.specs.declared.home.Arrival.{Arrival}
@@ -12,11 +12,7 @@ use Rattle.c65_agree_state.specs.World.{World, Active}
 use Rattle.c65_agree_rows.specs.Rows.{AreAt}
 use Rattle.c65_agree_frame.specs.Leads.{Leads, IsOn}
 use Rattle.c65_agree_frame.specs.Entries.{arriving, entry_cost}
-
--- the function takes no further arguments, and its entry checks no stacks
-pub record IsFixedFrame (f : Framed) : Type 0 where
-  pub unchecked : f.check ≡ None
-  pub fixed : f.variadic ≡ false
+use Rattle.c65_agree_registers.specs.Checks.{StacksReach, checking_cost}
 
 -- one or two of the bytes of regbank that a function takes
 pub record IsBanked (taken bank bytes : ℕ) : Type 0 where
@@ -86,11 +82,14 @@ pub record HasMoved (f : Framed) (t u : State) : Type 0 where
   pub bytes : IsBytes u
 
 -- a load and two stores for each that moves
-abbrev pub register_cost : Framed → ℕ
-register_cost f = entry_cost f + 266 * length f.moved
+abbrev pub moving_cost : Framed → ℕ
+moving_cost f = entry_cost f + 266 * length f.moved
 
--- The lines of the entry take the frame, and bring the parameters to regbank.
+abbrev pub register_cost : Framed → ℕ
+register_cost f = checking_cost f.check + moving_cost f
+
+-- The lines of the entry take the frame, and bring the parameters to regbank, whether or not they check the stacks, where these reach.
 abbrev pub EntriesMove : Type 0
-EntriesMove = (g : World) (a : Active) (t : State) → IsPlacement g.code g.place → IsOn g t → IsFixedFrame a.frame → HasMoves a.frame
+EntriesMove = (g : World) (a : Active) (t : State) → IsPlacement g.code g.place → IsOn g t → a.frame.variadic ≡ false → StacksReach a.frame.check t → HasMoves a.frame
     → stack_start + 64 + (a.frame.soft + (saved_bytes a.frame.bank + length (arriving a.frame.last t))) ≤ sp_of t → sp_of t + a.frame.stacked ≤ stack_end + length (arriving a.frame.last t)
     → Leads g a (entry_code a.frame) (register_cost a.frame) t (HasMoved a.frame t)

@@ -1,4 +1,2 @@
-pub mod Calls
+pub mod Checks
 pub mod Entries
-pub mod Frames
-pub mod Passed

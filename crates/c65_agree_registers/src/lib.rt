@@ -1,9 +1,6 @@
-//! The parameters of a called function that stand in regbank.
+//! The lines of the entry of a function check the stacks, where they do, and bring its parameters to regbank.
 #![tactic(auto)]
 
 mod laws;
 
-pub use laws::{
-    entries_bring_parameters, entries_move, frames_have_moves, frames_take_parameters,
-    register_entries_keep, register_functions_are_followed,
-};
+pub use laws::{entries_move, small_stacks_end, stacks_are_checked};

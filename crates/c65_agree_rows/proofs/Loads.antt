@@ -3,14 +3,20 @@ use Rattle.std.proofs.Common.{◌≡◌, ℕ, ◌+◌, ◌-◌, ◌*◌, ◌%◌
 use Rattle.std.specs.Prelude.{nat_lt, if◌then◌else◌}
 use Rattle.std.proofs.lemmas.Bool.{cases_lt}
 use Rattle.std.proofs.lemmas.List.Elements.{All-nil}
+use Rattle.c65_meaning.specs.State.{Scene}
+use Rattle.c65_code.specs.declared.parts.Part.TheVariants.{Zp}
 use Rattle.c65_code.specs.LineState.{State, word_at, sp_of, ax_of, IsBytes}
+use Rattle.c65_code.specs.Placement.{IsPlacement, stack_end}
 use Rattle.c65_code.specs.Texts.{range_of}
 use Rattle.c65_code.specs.Rows.{long_at}
 use Rattle.c65_code.specs.Steady.{IsOpen}
+use Rattle.c65_agree_store.specs.Stands.{Placing, Banks}
+use Rattle.c65_agree_state.specs.World.{World, Active}
+use Rattle.c65_agree_state.specs.Exprs.{Ready}
 use Rattle.c65_agree_numbers.specs.Words.{signed_byte, signed_long}
 use Rattle.c65_agree_numbers.proofs.Tests.{less, not_less, at_most}
 use Rattle.c65_agree_rows.specs.Rows.{Widening, SignedByte, SignedWord, UnsignedWord, widening_of, IsWidened, NearLoad, WordByY, WordAtSp, LongByY, near_load_of, near_width, IsOffset, IsNearLoaded, FarLoad, FarByte, FarWord, FarLong, far_load_of, far_width, IsFarLoaded}
-use Rattle.c65_agree_rows.specs.Laws.{WideningsRun, NearLoadsRun, FarLoadsRun}
+use Rattle.c65_agree_rows.specs.Laws.{Runs, IsKeptWith, WideningsRun, NearLoadsRun, FarLoadsRun}
 use Rattle.c65_agree_rows.proofs.Quiet.{in_range, quiet_row}
 use Rattle.c65_agree_rows.proofs.Families.{HasRow, kept_runs}
 
@@ -122,6 +128,64 @@ near_rows LongByY o t b e =
 pub near_loads_run : NearLoadsRun
 near_loads_run g a pushed needs c w k t load o placed r e fits =
     kept_runs g a pushed needs c w k t placed r (near_load_of load) (range_of (near_width load) (sp_of t + o)) [] (IsNearLoaded load (sp_of t + o) t) (near_rows load o t r.joins.bytes e)
+    (in_range (IsOpen g.place (sp_of t)) (near_width load) (sp_of t + o) (λ i lt. inr (omega arith, omega (arith, lt, fits))))
+    (All-nil (IsOpen g.place (sp_of t)))
+
+-- ptr2 stays
+pub record LeavesSecond (t u : State) : Type 0 where
+  pub low : u.zp 10 ≡ t.zp 10
+  pub high : u.zp 11 ≡ t.zp 11
+
+abbrev HasLight : NearLoad → ℕ → State → Type 0
+HasLight load at t = HasRow (near_load_of load) (range_of (near_width load) at) [] (λ u. IsNearLoaded load at t u × LeavesSecond t u) t
+
+light_rows : (load : NearLoad) (o : ℕ) (t : State) → IsBytes t → IsOffset load o t.regs.y → HasLight load (sp_of t + o) t
+light_rows WordByY o t b e =
+    let at : sp_of t + t.regs.y - 1 ≡ sp_of t + o = omega (arith, e) in
+    record {
+      row = _;
+      is = refl;
+      still = record { quiet = quiet_row _ refl refl refl refl refl; sp = refl; writes = refl };
+      ready = at_most 1 t.regs.y (omega (arith, e));
+      near = ap (range_of 2) at;
+      far = refl;
+      result = λ u meets.
+          let a = meets.a in let x = meets.x in let h = word_below t (sp_of t + t.regs.y - 1) b in
+          (omega (arith, a, x, h) ∙ ap (word_at t.mem) at, record { low = sym (meets.kept (Zp 10) refl); high = sym (meets.kept (Zp 11) refl) });
+    }
+light_rows WordAtSp o t b e =
+    let at : sp_of t ≡ sp_of t + o = omega (arith, e) in
+    record {
+      row = _;
+      is = refl;
+      still = record { quiet = quiet_row _ refl refl refl refl refl; sp = refl; writes = refl };
+      ready = refl;
+      near = ap (range_of 2) at;
+      far = refl;
+      result = λ u meets.
+          let a = meets.a in let x = meets.x in let h = word_below t (sp_of t) b in
+          (omega (arith, a, x, h) ∙ ap (word_at t.mem) at, record { low = sym (meets.kept (Zp 10) refl); high = sym (meets.kept (Zp 11) refl) });
+    }
+light_rows LongByY o t b e =
+    let at : sp_of t + t.regs.y - 3 ≡ sp_of t + o = omega (arith, e) in
+    record {
+      row = _;
+      is = refl;
+      still = record { quiet = quiet_row _ refl refl refl refl refl; sp = refl; writes = refl };
+      ready = at_most 3 t.regs.y (omega (arith, e));
+      near = ap (range_of 4) at;
+      far = refl;
+      result = λ u meets.
+          let a = meets.a in let x = meets.x in let s = meets.sreg in let h = long_below t (sp_of t + t.regs.y - 3) b in
+          (omega (arith, a, x, s, h) ∙ ap (long_at t.mem) at, record { low = sym (meets.kept (Zp 10) refl); high = sym (meets.kept (Zp 11) refl) });
+    }
+
+-- such a load leaves ptr2
+pub light_loads_run : (g : World) (a : Active) (pushed needs : ℕ) (c : Scene) (w : Placing) (k : Banks) (t : State) (load : NearLoad) (o : ℕ)
+    → IsPlacement g.code g.place → Ready g a pushed needs c w k t → IsOffset load o t.regs.y → sp_of t + o + near_width load ≤ stack_end
+    → Runs g (near_load_of load) t (IsKeptWith g a c w k t (λ u. IsNearLoaded load (sp_of t + o) t u × LeavesSecond t u))
+light_loads_run g a pushed needs c w k t load o placed r e fits =
+    kept_runs g a pushed needs c w k t placed r (near_load_of load) (range_of (near_width load) (sp_of t + o)) [] (λ u. IsNearLoaded load (sp_of t + o) t u × LeavesSecond t u) (light_rows load o t r.joins.bytes e)
     (in_range (IsOpen g.place (sp_of t)) (near_width load) (sp_of t + o) (λ i lt. inr (omega arith, omega (arith, lt, fits))))
     (All-nil (IsOpen g.place (sp_of t)))
 

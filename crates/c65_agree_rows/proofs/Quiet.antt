@@ -1,6 +1,6 @@
 -- Quiet rows, and routines under what is followed.
 use Rattle.std.proofs.Common.{◌≡◌, ℕ, zero, suc, ◌+◌, ◌*◌, ◌<◌, ◌≤◌, ◌⊎◌, inl, inr, List, [], ◌∷◌, ◌++◌, Bool, true, false, Some, None, refl, sym, ap, ◌∙◌, subst, arith}
-use Rattle.std.specs.Prelude.{drop, length, All, ◌||◌}
+use Rattle.std.specs.Prelude.{drop, length, All, ◌||◌, slice_get}
 use Rattle.std.proofs.lemmas.Bool.Decides.{nat_tests}
 use Rattle.std.proofs.lemmas.List.Elements.{All-nil, All-cons}
 use Rattle.c65_code.specs.declared.parts.Part.TheVariants.{Zp}
@@ -11,18 +11,18 @@ use Rattle.c65_code.specs.LineState.{Place as Spot, Bytes, write, State, sp_of, 
 use Rattle.c65_code.specs.Forms.{Run}
 use Rattle.c65_code.specs.Rows.{Row, Meets, written, row_of}
 use Rattle.c65_code.specs.Moves.{MeetsRow}
-use Rattle.c65_code.specs.Steady.{HasRoom}
+use Rattle.c65_code.specs.Steady.{IsCalm, HasRoom}
 use Rattle.c65_code.specs.Texts.{range_of, listed}
 use Rattle.c65_code.specs.Weights.{row_cost}
-use Rattle.c65_code.specs.Comes.{Seen}
+use Rattle.c65_code.specs.Comes.{Seen, here}
 use Rattle.c65_genwide.specs.Lines.{call}
 use Rattle.c65_meaning.specs.Why.{Why}
 use Rattle.c65_meaning.specs.Sem.{IsDefined, outcome_of}
-use Rattle.c65_meaning.specs.State.{Undefined}
+use Rattle.c65_meaning.specs.State.{Undefined, Ended}
 use Rattle.c65_meaning.specs.Step.{steps}
 use Rattle.c65_agree_step.specs.Ways.{IsAtLine}
 use Rattle.c65_agree_step.proofs.Ways.{weaken, routines_go}
-use Rattle.c65_agree_state.specs.World.{World, program_in, setting_in}
+use Rattle.c65_agree_state.specs.World.{World, program_in, setting_in, total_in}
 use Rattle.c65_agree_state.specs.Follows.{Agrees, Follows}
 use Rattle.c65_agree_state.specs.Laws.{OnlyScratch}
 use Rattle.c65_agree_state.proofs.Followed.{ready_is_calm}
@@ -61,6 +61,16 @@ listed_are_at m (v ∷ vs) at = (listed_before (write m at v) vs (at + 1) at (om
 pub are_at_in : (m m2 : Bytes) (vs : List ℕ) (at : ℕ) → ((n : ℕ) → at ≤ n → m2 n ≡ m n) → AreAt m at vs → AreAt m2 at vs
 are_at_in m m2 [] at same h = tt
 are_at_in m m2 (v ∷ vs) at same h = (same at (omega arith) ∙ h.0, are_at_in m m2 vs (at + 1) (λ n le. same n (omega (arith, le))) h.1)
+
+pub item_is : (m : Bytes) (vs : List ℕ) (at i v : ℕ) → AreAt m at vs → slice_get vs i ≡ Some v → m (at + i) ≡ v
+item_is m [] at i v h e = cc
+item_is m (x ∷ vs) at zero v h e =
+    let same : x ≡ v = cc in
+    let here : at + 0 ≡ at = omega arith in
+    ap m here ∙ h.0 ∙ same
+item_is m (x ∷ vs) at (suc i) v h e =
+    let onward : at + suc i ≡ at + 1 + i = omega arith in
+    ap m onward ∙ item_is m vs (at + 1) i v h.1 e
 
 pub listed_below : (vs : List ℕ) (at bound : ℕ) → 63472 ≤ at → at + length vs ≤ bound → WriteBelow bound (listed vs at)
 listed_below [] at bound low high = tt
@@ -143,3 +153,13 @@ undefined_stays g why (suc n) = undefined_stays g why n
 
 pub nothing_follows : (g : World) (why : Why) (n v : ℕ) (q : Spot) (t : State) (seen : Seen) → Follows g n v (Undefined why) q t seen
 nothing_follows g why n v q t seen d = absurd (subst (λ m. IsDefined (outcome_of m)) (undefined_stays g why n) d.1)
+
+-- ---- the end
+
+-- an end stays
+ended_stays : (g : World) (n : ℕ) (out : List ℕ) (status turns : ℕ) → steps (program_in g) n (Ended out status turns) ≡ Ended out status turns
+ended_stays g zero out status turns = refl
+ended_stays g (suc n) out status turns = ended_stays g n out status turns
+
+pub ends_there : (g : World) (n v : ℕ) (out : List ℕ) (status turns : ℕ) (q : Spot) (u : State) (seen : Seen) → u.output ≡ out → u.ended ≡ Some status → turns ≤ total_in g seen → IsCalm (setting_in g) u → Follows g n v (Ended out status turns) q u seen
+ends_there g n v out status turns q u seen text end few calm d = here (subst (λ m. Agrees g m q u seen) (sym (ended_stays g n out status turns)) (text, end, few)) calm

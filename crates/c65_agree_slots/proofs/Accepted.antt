@@ -58,10 +58,10 @@ if_true false h = h
 
 -- ---- what is compatible with a type
 
-abbrev Meets : TypesTy → Ty → Ty → Type 0
+abbrev pub Meets : TypesTy → Ty → Ty → Type 0
 Meets types t s = are_compatible types (plain t) (plain s) ≡ true
 
-met_int : (types : TypesTy) (k : IntType) (s : Ty) → Meets types (int k) s → s ≡ int k
+pub met_int : (types : TypesTy) (k : IntType) (s : Ty) → Meets types (int k) s → s ≡ int k
 met_int types k (int j) h = go (same_int k j) refl h
   where
     go : (m : Bool) → same_int k j ≡ m → each_in (agrees types (2 ^ 64)) (if m then Some [] else None) ≡ true → int j ≡ int k
@@ -73,7 +73,7 @@ met_int types k (array q n) h = absurd cc
 met_int types k (tag n) h = absurd cc
 met_int types k (function f) h = absurd cc
 
-met_pointer : (types : TypesTy) (q : QTy) (s : Ty) → Meets types (pointer q) s → (p : QTy) × (s ≡ pointer p)
+pub met_pointer : (types : TypesTy) (q : QTy) (s : Ty) → Meets types (pointer q) s → (p : QTy) × (s ≡ pointer p)
 met_pointer types q (pointer p) h = (p, refl)
 met_pointer types q void h = absurd cc
 met_pointer types q (int k) h = absurd cc
@@ -81,7 +81,7 @@ met_pointer types q (array p n) h = absurd cc
 met_pointer types q (tag n) h = absurd cc
 met_pointer types q (function f) h = absurd cc
 
-met_tag : (types : TypesTy) (m : ℕ) (s : Ty) → Meets types (tag m) s → (n : ℕ) × (s ≡ tag n) × (1 ≤ size_of types (tag m) → 1 ≤ size_of types (tag n) → size_of types (tag m) ≡ size_of types (tag n))
+pub met_tag : (types : TypesTy) (m : ℕ) (s : Ty) → Meets types (tag m) s → (n : ℕ) × (s ≡ tag n) × (1 ≤ size_of types (tag m) → 1 ≤ size_of types (tag n) → size_of types (tag m) ≡ size_of types (tag n))
 met_tag types m (tag n) h = (n, refl, λ least other. pairs_size types (2 ^ 64) m n (omega arith) least other (if_true (agrees types (2 ^ 64) (m, n)) h))
 met_tag types m void h = absurd cc
 met_tag types m (int k) h = absurd cc
@@ -134,7 +134,7 @@ alike_self types (function f) h = absurd cc
 
 -- ---- arguments
 
-argument_of : (u : UnitTy) (e : Typed) → IsGiven u e → IsArgument u e
+pub argument_of : (u : UnitTy) (e : Typed) → IsGiven u e → IsArgument u e
 argument_of u (node t (pack e)) h = parameters.bytes h.1.0
 argument_of u (node t _) h = parameters.value h.1.0.0
 
@@ -146,7 +146,7 @@ some_same : (x y : ObjectTy) → ◌≡◌ {A = Option ObjectTy} (Some x) (Some 
 some_same x y h = cc
 
 -- for a definition with a prototype
-taken_known : (u : UnitTy) (qs : QTys) (es : Nodes) (is : List ℕ) → AreTyped u es → All (IsParam u) is → AreParams u qs is → fit u.types (types_of es) false qs ≡ true → AreTaken u true es is
+pub taken_known : (u : UnitTy) (qs : QTys) (es : Nodes) (is : List ℕ) → AreTyped u es → All (IsParam u) is → AreParams u qs is → fit u.types (types_of es) false qs ≡ true → AreTaken u true es is
 taken_known u end none [] typed params match fits = tt
 taken_known u end none (i ∷ is) typed params match fits = absurd match
 taken_known u end (some e es) is typed params match fits = absurd cc
@@ -207,7 +207,7 @@ passed_by_same u (more q qs) v (some e es) given =
     let type : type_in q ≡ bare_type e = sym (plain_type q) ∙ ap type_in (sym given.0) in
     ap (λ (t : Ty). t ∷ passed_by qs (types_of es)) type ∙ ap (λ (ts : List Ty). bare_type e ∷ ts) (passed_by_same u qs v es given.1)
 
-passed_same : (u : UnitTy) (t : Fn) (es : Nodes) → FitsFn u t es → passed_to (Some t) (types_of es) ≡ types_of es
+pub passed_same : (u : UnitTy) (t : Fn) (es : Nodes) → FitsFn u t es → passed_to (Some t) (types_of es) ≡ types_of es
 passed_same u (fn q unknown v c) es given = refl
 passed_same u (fn q (known ps) v c) es given = passed_by_same u ps v es given
 

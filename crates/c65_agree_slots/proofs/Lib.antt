@@ -1,5 +1,13 @@
 pub mod Accepted
+pub mod Asked
+pub mod Bytes
 pub mod Callees
+pub mod Calls
+pub mod Frames
 pub mod Functions
+pub mod Paid
+pub mod Refused
+pub mod Results
+pub mod Shapes
 pub mod Slots
 pub mod Taken

@@ -59,10 +59,10 @@ abbrev Fits : TypesTy → Bool → Ty → ℕ → Type 0
 Fits types prototype t n = (passed_bytes types prototype t ≡ n) × (size_in (shape_of types t) ≤ n)
 
 -- as its own type
-abbrev FitsOwn : TypesTy → Ty → ℕ → Type 0
+abbrev pub FitsOwn : TypesTy → Ty → ℕ → Type 0
 FitsOwn types t n = (bytes_or types t 65536 ≡ n) × (size_in (shape_of types t) ≤ n)
 
-int_fits : (types : TypesTy) (k : IntType) → FitsOwn types (int k) (size_of k)
+pub int_fits : (types : TypesTy) (k : IntType) → FitsOwn types (int k) (size_of k)
 int_fits types ints.SChar = (refl, omega arith)
 int_fits types ints.UChar = (refl, omega arith)
 int_fits types ints.Short = (refl, omega arith)
@@ -127,10 +127,18 @@ clamped_few (suc (suc (suc (suc (suc n))))) least few = absurd (omega (arith, fe
 pub small_bounds : (n : ℕ) → (nat_le 1 n && nat_le n 4) ≡ true → (1 ≤ n) × (n ≤ 4)
 small_bounds n h = let parts = and_parts (nat_le 1 n) (nat_le n 4) h in (leb-true 1 n parts.0, leb-true n 4 parts.1)
 
-small_bytes : (types : TypesTy) (u : Ty) → is_small types u ≡ true → clamped (bytes_or types u 0) ≡ ctype.size_of types u
+pub small_size : (types : TypesTy) (u : Ty) → is_small types u ≡ true → bytes_or types u 0 ≡ ctype.size_of types u
+small_size types (tag n) small = let bounds = small_bounds (ctype.size_of types (tag n)) small in layout_bytes (layout_at types n) 0 bounds.0 bounds.1
+small_size types void small = absurd cc
+small_size types (int k) small = absurd cc
+small_size types (pointer q) small = absurd cc
+small_size types (array q n) small = absurd cc
+small_size types (function f) small = absurd cc
+
+pub small_bytes : (types : TypesTy) (u : Ty) → is_small types u ≡ true → clamped (bytes_or types u 0) ≡ ctype.size_of types u
 small_bytes types (tag n) small =
     let bounds = small_bounds (ctype.size_of types (tag n)) small in
-    ap clamped (layout_bytes (layout_at types n) 0 bounds.0 bounds.1) ∙ clamped_few (ctype.size_of types (tag n)) bounds.0 bounds.1
+    ap clamped (small_size types (tag n) small) ∙ clamped_few (ctype.size_of types (tag n)) bounds.0 bounds.1
 small_bytes types void small = absurd cc
 small_bytes types (int k) small = absurd cc
 small_bytes types (pointer q) small = absurd cc
@@ -174,7 +182,7 @@ taken_fits : (f : Framed) (prototype : Bool) (t : Ty) (e : Typed) → IsTaken (u
 taken_fits f prototype t e (parameters.scalar scalar a) = subst (λ (n : ℕ). Fits (types_of f.parts.types) prototype t n) (sym (scalar_size f e scalar)) (scalar_fits (types_of f.parts.types) prototype t (bare e) scalar a)
 taken_fits f prototype t (node q (pack e)) (parameters.packed small a size) = small_fits (types_of f.parts.types) prototype t (type_in q) small a size
 
-object_fits : (parts : Parts) (f : Framed) (prototype : Bool) (i : ℕ) (o : ObjectTy) (e : Typed) → f.parts ≡ parts → slice_get (unit_of parts).objects i ≡ Some o → IsTaken (unit_of parts) (passed_type prototype (type_in o.ty)) e
+pub object_fits : (parts : Parts) (f : Framed) (prototype : Bool) (i : ℕ) (o : ObjectTy) (e : Typed) → f.parts ≡ parts → slice_get (unit_of parts).objects i ≡ Some o → IsTaken (unit_of parts) (passed_type prototype (type_in o.ty)) e
     → (slot_bytes (types_of parts.types) prototype (object_in parts i) ≡ passed_size f e) × (size_in (shape_in (unit_of parts) i) ≤ passed_size f e)
 object_fits parts f prototype i o e own there taken =
     let here : IsTaken (unit_of f.parts) (passed_type prototype (type_in o.ty)) e = subst (λ (x : Parts). IsTaken (unit_of x) (passed_type prototype (type_in o.ty)) e) (sym own) taken in

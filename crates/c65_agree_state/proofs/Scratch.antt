@@ -49,6 +49,8 @@ module _ (g : World) (a : Active) (placed : IsPlacement g.code g.place) (c : Sce
     bank = λ i lt. j.bank i lt ∙ o.bank i lt;
     symbols = j.symbols;
     fixed = j.fixed;
+    sizes = j.sizes;
+    sized = j.sized;
     fresh = j.fresh;
     homes = j.homes;
     rests = j.rests;
@@ -71,6 +73,7 @@ module _ (g : World) (a : Active) (placed : IsPlacement g.code g.place) (c : Sce
     hard = hard;
     frames = o.frames ∙ j.frames;
     input = o.input ∙ j.input;
+    read = j.read;
     output = o.output ∙ j.output;
     ended = o.ended ∙ j.ended;
     bytes = o.bytes;

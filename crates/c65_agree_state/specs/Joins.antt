@@ -1,5 +1,5 @@
 -- How a scene of the meaning and a state of the machine belong together.
-use Rattle.std.specs.Prelude.{◌≡◌, ℕ, ◌+◌, ◌<◌, ◌≤◌, ◌⊎◌, true, false, if◌then◌else◌, IsTrue, Option, Some, None, length}
+use Rattle.std.specs.Prelude.{◌≡◌, ℕ, ◌+◌, ◌<◌, ◌≤◌, ◌⊎◌, true, false, if◌then◌else◌, IsTrue, Option, Some, None, length, All}
 use Rattle.c65_meaning.specs.Store.{Block, is_live}
 use Rattle.c65_meaning.specs.State.{Scene, block_in, rest_in, soft_sum, hard_sum}
 use Rattle.c65_meaning.specs.Step.{func_in, frames_below}
@@ -13,6 +13,7 @@ use Rattle.c65_genframe.specs.Symbols.{numbers_of, literal_symbol, function_symb
 use Rattle.c65_agree_store.specs.Stands.{Spot, At, Banked, Placing, Banks, IsAt, Stands, IsFree}
 use Rattle.c65_agree_state.specs.World.{World, unit_in, Active}
 use Rattle.c65_agree_state.specs.Fixed.{symbol_at, HaveFixed}
+use Rattle.c65_agree_state.specs.Sizes.{HaveSizes, AreSized}
 
 -- ---- the active call
 
@@ -66,6 +67,9 @@ pub record Joins (g : World) (a : Active) (c : Scene) (w : Placing) (k : Banks) 
   pub bank : HasBank k (length a.behind) t
   pub symbols : HaveSymbols g w
   pub fixed : HaveFixed g c w
+  -- blocks of the whole run, and those of the active call, have the bytes of what lies in them
+  pub sizes : HaveSizes (unit_in g) c.store c.next
+  pub sized : AreSized (unit_in g) c
   -- numbers of blocks that are still to come have no place
   pub fresh : (b : ℕ) → c.next ≤ b → w b ≡ None
   -- the blocks of the active call have their places at home, also those that have ended, and the calls are those of the machine
@@ -95,6 +99,8 @@ pub record Joins (g : World) (a : Active) (c : Scene) (w : Placing) (k : Banks) 
   pub count_free : a.frame.variadic ≡ true → IsFree c.store w (At a.base)
   pub frames : t.frames ≡ a.behind
   pub input : t.input ≡ c.input
+  -- which is of bytes
+  pub read : All (λ v. v < 256) c.input
   pub output : t.output ≡ c.out
   pub ended : t.ended ≡ None
   pub bytes : IsBytes t

@@ -21,7 +21,6 @@ use Rattle.c65_agree_state.specs.World.{World, Active, program_in, setting_in, t
 use Rattle.c65_agree_state.specs.Joins.{Joins}
 use Rattle.c65_agree_state.specs.Follows.{Follows}
 use Rattle.c65_agree_state.specs.Exprs.{Ready, Yield, Valued, Placed, Kept, Does, ExpressionDoes, TestDoes}
-use Rattle.c65_agree_state.specs.Stmts.{Between, Keeping}
 
 -- ---- what is followed
 
@@ -66,20 +65,6 @@ ReadyIsCalm = (g : World) (a : Active) (pushed needs : ℕ) (c : Scene) (w : Pla
 abbrev pub KeptGoesOn : Type 0
 KeptGoesOn = (g : World) (a : Active) (c c2 c3 : Scene) (w w2 w3 : Placing) (k k2 k3 : Banks) (t t2 t3 : State)
     → Kept g a c w k t c2 w2 k2 t2 → Kept g a c2 w2 k2 t2 c3 w3 k3 t3 → Kept g a c w k t c3 w3 k3 t3
-
--- an expression may begin between two statements, and behind it the next statement may
-abbrev pub BetweenIsReady : Type 0
-BetweenIsReady = (g : World) (a : Active) (needs : ℕ) (scope : List ℕ) (c : Scene) (w : Placing) (k : Banks) (t : State)
-    → Between g a needs scope c w k t → Ready g a 0 needs c w k t
-
-abbrev pub BetweenStays : Type 0
-BetweenStays = (g : World) (a : Active) (needs : ℕ) (scope : List ℕ) (c c2 : Scene) (w w2 : Placing) (k k2 : Banks) (t t2 : State)
-    → Between g a needs scope c w k t → Kept g a c w k t c2 w2 k2 t2 → Between g a needs scope c2 w2 k2 t2
-
--- what the call has kept for the one behind it, it keeps over an expression
-abbrev pub KeepingGoesOn : Type 0
-KeepingGoesOn = (g : World) (a : Active) (needs : ℕ) (scope : List ℕ) (first c c2 : Scene) (w1 w w2 : Placing) (k1 k k2 : Banks) (t1 t t2 : State)
-    → Keeping a first w1 k1 t1 c w k t → Between g a needs scope c w k t → Kept g a c w k t c2 w2 k2 t2 → Keeping a first w1 k1 t1 c2 w2 k2 t2
 
 -- where an expression might begin another one may, which needs no more, behind one that has ended
 abbrev pub ReadyStays : Type 0

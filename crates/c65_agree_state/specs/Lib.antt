@@ -1,7 +1,7 @@
 pub mod World
 pub mod Fixed
+pub mod Sizes
 pub mod Joins
 pub mod Follows
 pub mod Exprs
-pub mod Stmts
 pub mod Laws

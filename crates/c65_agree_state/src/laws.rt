@@ -1,5 +1,5 @@
 // Laws of the relation between meaning and machine, each the contract of a function that does nothing.
-ghost use Rattle.c65_agree_state.specs.Laws.{AddressesDo, ArrivalsCount, BetweenIsReady, BetweenStays, CommasDo, ConstantTestsDo, ConstantsDo, FollowsWeaken, HeadsCount, KeepingGoesOn, KeptGoesOn, ReadyIsCalm, ReadyStays, ScratchChanges, ScratchIsKept, StepsEarn, WaysAreFollowed};
+ghost use Rattle.c65_agree_state.specs.Laws.{AddressesDo, ArrivalsCount, CommasDo, ConstantTestsDo, ConstantsDo, FollowsWeaken, HeadsCount, KeptGoesOn, ReadyIsCalm, ReadyStays, ScratchChanges, ScratchIsKept, StepsEarn, WaysAreFollowed};
 
 /// What is followed within a weight is followed within a greater one.
 pub fn follows_weaken()
@@ -39,21 +39,6 @@ pub fn scratch_changes()
 /// What one part of an expression keeps and what the next one keeps is kept over both.
 pub fn kept_goes_on()
     ensures { KeptGoesOn }
-{}
-
-/// An expression may begin between two statements.
-pub fn between_is_ready()
-    ensures { BetweenIsReady }
-{}
-
-/// Behind an expression that began between two statements the next statement may begin.
-pub fn between_stays()
-    ensures { BetweenStays }
-{}
-
-/// A call keeps over an expression what it has kept for the call behind it.
-pub fn keeping_goes_on()
-    ensures { KeepingGoesOn }
 {}
 
 /// Where an expression has ended the next one may begin.

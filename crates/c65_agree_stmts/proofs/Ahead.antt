@@ -17,7 +17,7 @@ use Rattle.c65_agree_store.specs.Stands.{Placing, Banks}
 use Rattle.c65_agree_step.proofs.Ways.{labels_are_passed}
 use Rattle.c65_agree_state.specs.World.{World, unit_in, setting_in, Active, lines_of, place_in, HasAt, IsPlaced, HasTurns}
 use Rattle.c65_agree_state.specs.Follows.{Follows}
-use Rattle.c65_agree_state.specs.Stmts.{Covers, GoesOn, ComesOn, LeadsTo, LabelLeads, ReturnLeads, arms_weight}
+use Rattle.c65_agree_between.specs.Stmts.{Covers, GoesOn, ComesOn, LeadsTo, LabelLeads, ReturnLeads, arms_weight}
 use Rattle.c65_agree_state.proofs.Followed.{follows_weaken}
 use Rattle.c65_agree_stmts.specs.Calling.{Calling, WorkDoes, AllDo, EndsIn, WorkEnds}
 use Rattle.c65_agree_lines.specs.Lists.{stmts_code}

@@ -20,11 +20,13 @@ use Rattle.c65_agree_store.specs.Laws.{put_at}
 use Rattle.c65_agree_store.proofs.Keep.{block_same, block_other, unset_blocks_begin}
 use Rattle.c65_agree_state.specs.World.{World, unit_in, Active}
 use Rattle.c65_agree_state.specs.Fixed.{symbol_at, HasFor, is_object_of, HaveOwnObjects, AreOnce, func_has_fixed}
+use Rattle.c65_agree_state.specs.Sizes.{AreSized}
 use Rattle.c65_agree_state.specs.Joins.{Joins, HasBlock, IsRest, IsOfCall, home_spot, spot_of}
 use Rattle.c65_agree_state.specs.Exprs.{bounds_of}
-use Rattle.c65_agree_state.specs.Stmts.{AreOpen, AreSized}
+use Rattle.c65_agree_between.specs.Stmts.{AreOpen}
 use Rattle.c65_agree_state.proofs.Followed.{ready_is_calm}
 use Rattle.c65_agree_state.proofs.Scratch.{constants_are_low}
+use Rattle.c65_agree_state.proofs.Parts.{sizes_stay}
 use Rattle.c65_agree_stmts.specs.Calling.{Calling}
 use Rattle.c65_agree_stmts.specs.Objects.{bytes_of, IsFramed, IsFixed, MayBegin, HasGround}
 use Rattle.c65_agree_stmts.proofs.Standing.{Stands, ready}
@@ -474,12 +476,26 @@ module _ (x : Calling) (ground : HasGround x) (scope : List ℕ) (i : ℕ) (may 
   hard_is : hard_sum c2.frames ≡ hard_sum c.frames
   hard_is = hard_named c.frames i c.next
 
+  sized_new : AreSized u c2
+  sized_new m d y e is = go (named m d e)
+    where
+      go : ((m ≡ i) × (d ≡ c.next)) ⊎ ((m ≢ i) × (block_in c.frames m ≡ Some d)) → y.size ≡ bytes_of g m
+      go (inl here) =
+          let both : Some y ≡ Some new = sym is ∙ (ap c2.store here.1 ∙ store_here) in
+          let block : y ≡ new = cc in
+          ap (λ z. z.size) block ∙ ap (bytes_of g) (sym here.0)
+      go (inr there) =
+          let ne = old d (spot_of g a m) (j.homes m d there.1) in
+          h.between.sized m d y there.1 (sym (store_other d ne) ∙ is)
+
   joins_new : Joins g a c2 q2 b t
   joins_new = record {
     stands = stands_new;
     bank = j.bank;
     symbols = record { funcs = λ n lt. grown n _ (j.symbols.funcs n lt); literals = λ l lt. grown _ _ (j.symbols.literals l lt); objects = λ n lasting lt. grown _ _ (j.symbols.objects n lasting lt) };
     fixed = record { own = own_new; objects = objects_new; once = once_new };
+    sizes = sizes_stay u c.store c2.store c.next c2.next (omega arith) (λ d lt. ap bounds_of (store_other d (λ e. omega (arith, e, lt)))) j.sizes;
+    sized = sized_new;
     fresh = λ d le. place_other d (λ e. omega (arith, e, le)) ∙ j.fresh d (omega (arith, le));
     homes = home_new;
     rests = rest_later;
@@ -502,6 +518,7 @@ module _ (x : Calling) (ground : HasGround x) (scope : List ℕ) (i : ℕ) (may 
     count_free = count_new;
     frames = j.frames;
     input = j.input;
+    read = j.read;
     output = j.output;
     ended = j.ended;
     bytes = j.bytes;
@@ -524,18 +541,6 @@ module _ (x : Calling) (ground : HasGround x) (scope : List ℕ) (i : ℕ) (may 
               by : (z : Bool) → (if z then true else is_among scope m) ≡ true
               by true = refl
               by false = e2
-
-  sized_new : AreSized u c2
-  sized_new m d y e is = go (named m d e)
-    where
-      go : ((m ≡ i) × (d ≡ c.next)) ⊎ ((m ≢ i) × (block_in c.frames m ≡ Some d)) → y.size ≡ bytes_of g m
-      go (inl here) =
-          let both : Some y ≡ Some new = sym is ∙ (ap c2.store here.1 ∙ store_here) in
-          let block : y ≡ new = cc in
-          ap (λ z. z.size) block ∙ ap (bytes_of g) (sym here.0)
-      go (inr there) =
-          let ne = old d (spot_of g a m) (j.homes m d there.1) in
-          h.between.sized m d y there.1 (sym (store_other d ne) ∙ is)
 
   kept_new : (n : ℕ) → a.base + a.frame.soft ≤ n → IsFree x.first.store x.placing (At n) → (t.mem n ≡ x.state.mem n) × IsFree c2.store q2 (At n)
   kept_new n le free = ((h.keeping.kept n le free).0, free_new n none (h.keeping.kept n le free).1)

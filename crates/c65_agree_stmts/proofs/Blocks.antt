@@ -11,7 +11,7 @@ use Rattle.c65_code.specs.LineState.{State}
 use Rattle.c65_genstmt.specs.declared.jumps.Ways.{Ways}
 use Rattle.c65_agree_store.specs.Stands.{Placing, Banks}
 use Rattle.c65_agree_state.specs.World.{unit_in, place_in, HasTurns}
-use Rattle.c65_agree_state.specs.Stmts.{Covers}
+use Rattle.c65_agree_between.specs.Stmts.{Covers}
 use Rattle.c65_agree_state.proofs.Followed.{follows_weaken}
 use Rattle.c65_agree_lines.specs.Lists.{stmts_code}
 use Rattle.c65_agree_stmts.specs.Calling.{Calling}

@@ -14,7 +14,7 @@ use Rattle.c65_genstmt.specs.Jumps.{following}
 use Rattle.c65_genstmt.specs.Stmts.{case_behind, returns_last}
 use Rattle.c65_genstmt.specs.Functions.{main_code}
 use Rattle.c65_agree_state.specs.World.{unit_in, lines_of, place_in, HasAt, IsPlaced}
-use Rattle.c65_agree_state.specs.Stmts.{arms_weight}
+use Rattle.c65_agree_between.specs.Stmts.{arms_weight}
 use Rattle.c65_agree_lines.specs.Lists.{last_code}
 use Rattle.c65_agree_stmts.specs.Calling.{Calling, EndsIn}
 use Rattle.c65_agree_stmts.specs.Landings.{first_of, label_of, label_in, Lands, LandsLast}

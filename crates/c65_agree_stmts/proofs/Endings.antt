@@ -2,7 +2,7 @@
 use Rattle.std.proofs.Common.{◌≡◌, ℕ, ◌<◌, ◌≤◌, ◌⊎◌, inl, inr, List, [], ◌∷◌, Option, Some, None, Bool, true, false, refl, sym, ap, ◌∙◌, subst, arith}
 use Rattle.std.specs.Prelude.{◌==◌, if◌then◌else◌}
 use Rattle.std.proofs.lemmas.Bool.{cases_eq, eqb-true}
-use Rattle.c65_meaning.specs.Store.{Block, Store, lives_in, is_live, end_in, end_block}
+use Rattle.c65_meaning.specs.Store.{Block, Store, lives_in, size_in_store, is_live, block_size, end_in, end_block}
 use Rattle.c65_meaning.specs.Shapes.{object_in, object_size}
 use Rattle.c65_meaning.specs.After.{is_among}
 use Rattle.c65_meaning.specs.State.{Scene, Frame as Call, with_store, block_in}
@@ -11,9 +11,10 @@ use Rattle.c65_code.specs.LineState.{State}
 use Rattle.c65_agree_store.specs.Stands.{Spot, At, Placing, Banks, IsAt, Stands as StoreStands, IsFree}
 use Rattle.c65_agree_store.proofs.Keep.{block_same, block_other}
 use Rattle.c65_agree_state.specs.World.{World, unit_in, Active}
+use Rattle.c65_agree_state.specs.Sizes.{AreSized}
 use Rattle.c65_agree_state.specs.Joins.{Joins, IsRest}
 use Rattle.c65_agree_state.specs.Exprs.{bounds_of}
-use Rattle.c65_agree_state.specs.Stmts.{AreOpen, AreSized, Covers}
+use Rattle.c65_agree_between.specs.Stmts.{AreOpen, Covers}
 use Rattle.c65_agree_stmts.specs.Calling.{Calling}
 use Rattle.c65_agree_stmts.proofs.Standing.{Stands}
 
@@ -178,12 +179,31 @@ module _ (g : World) (a : Active) (c : Scene) (w : Placing) (k : Banks) (t : Sta
           let same : e.0 ≡ r.block = cc in
           record { block = off r.block; is = e.2 ∙ ap (λ y. Some (off y)) same; place = r.place; size = r.size }
 
+  sized_later : AreSized (unit_in g) c → AreSized (unit_in g) (with_store c s2)
+  sized_later sized i d y named is = go (ends d)
+    where
+      go : (s2 d ≡ c.store d) ⊎ ((z : Block) × (c.store d ≡ Some z) × (s2 d ≡ Some (off z)) × (j : ℕ) × (block_in c.frames j ≡ Some d)) → y.size ≡ object_size (unit_in g).types (object_in (unit_in g) i)
+      go (inl e) = sized i d y named (sym e ∙ is)
+      go (inr e) =
+          let both : Some y ≡ Some (off e.0) = sym is ∙ e.2 in
+          let same : y ≡ off e.0 = cc in
+          ap (λ z. z.size) same ∙ sized i d e.0 named e.1
+
+  size_later : (d : ℕ) → block_size s2 d ≡ block_size c.store d
+  size_later d = go (ends d)
+    where
+      go : (s2 d ≡ c.store d) ⊎ ((y : Block) × (c.store d ≡ Some y) × (s2 d ≡ Some (off y)) × (i : ℕ) × (block_in c.frames i ≡ Some d)) → block_size s2 d ≡ block_size c.store d
+      go (inl e) = ap size_in_store e
+      go (inr e) = ap size_in_store e.2 ∙ sym (ap size_in_store e.1)
+
   joins_later : Joins g a c w k t → Joins g a (with_store c s2) w k t
   joins_later j = record {
     stands = stands_later j.stands;
     bank = j.bank;
     symbols = j.symbols;
     fixed = record { own = λ i b o n x q fixed at lo hi same. j.fixed.own i b o n x q fixed (was b x q at) lo hi same; objects = j.fixed.objects; once = j.fixed.once };
+    sizes = record { behind = j.sizes.behind; sizes = λ d lt. size_later d ∙ j.sizes.sizes d lt };
+    sized = sized_later j.sized;
     fresh = j.fresh;
     homes = j.homes;
     rests = λ b e. rest_later b (j.rests b e);
@@ -206,6 +226,7 @@ module _ (g : World) (a : Active) (c : Scene) (w : Placing) (k : Banks) (t : Sta
     count_free = λ e. free_later (At a.base) (j.count_free e);
     frames = j.frames;
     input = j.input;
+    read = j.read;
     output = j.output;
     ended = j.ended;
     bytes = j.bytes;
@@ -237,22 +258,12 @@ module _ (x : Calling) (scope inner os : List ℕ) (c : Scene) (q : Placing) (b 
           let clash : true ≡ false = sym live ∙ (sym (ap lives_in is) ∙ objects_dead c.frames os c i d refl e named) in
           cc
 
-  sized_later : AreSized (unit_in x.world) (with_store c s2)
-  sized_later i d y named is = go (ends d)
-    where
-      go : (s2 d ≡ c.store d) ⊎ ((z : Block) × (c.store d ≡ Some z) × (s2 d ≡ Some (off z)) × (j : ℕ) × (block_in c.frames j ≡ Some d)) → y.size ≡ object_size (unit_in x.world).types (object_in (unit_in x.world) i)
-      go (inl e) = h.between.sized i d y named (sym e ∙ is)
-      go (inr e) =
-          let both : Some y ≡ Some (off e.0) = sym is ∙ e.2 in
-          let same : y ≡ off e.0 = cc in
-          ap (λ z. z.size) same ∙ h.between.sized i d e.0 named e.1
-
   kept_later : Stands x inner (with_store c s2) q b t
   kept_later =
       let i = h.between in
       let r = h.keeping in
       record {
-        between = record { joins = joins_later x.world x.active c q b t s2 ends i.joins; sp = i.sp; room = i.room; scoped = open_later; sized = sized_later; call = i.call; none_pushed = i.none_pushed };
+        between = record { joins = joins_later x.world x.active c q b t s2 ends i.joins; sp = i.sp; room = i.room; scoped = open_later; sized = sized_later x.world x.active c q b t s2 ends i.sized; call = i.call; none_pushed = i.none_pushed };
         keeping = record {
           next = r.next;
           bounds = λ d own lt. ap bounds_of (others_later x.world x.active c q b t s2 ends i.joins d own) ∙ r.bounds d own lt;

@@ -19,7 +19,7 @@ use Rattle.c65_genstmt.specs.Jumps.{following}
 use Rattle.c65_agree_store.specs.Stands.{Placing, Banks}
 use Rattle.c65_agree_state.specs.World.{unit_in, total_in, lines_of, place_in, HasTurns}
 use Rattle.c65_agree_state.specs.Follows.{Follows}
-use Rattle.c65_agree_state.specs.Stmts.{Covers, arms_weight}
+use Rattle.c65_agree_between.specs.Stmts.{Covers, arms_weight}
 use Rattle.c65_agree_state.proofs.Followed.{follows_weaken}
 use Rattle.c65_agree_lines.specs.Lists.{stmt_code}
 use Rattle.c65_agree_stmts.specs.Calling.{Calling, GotosAreCounted}

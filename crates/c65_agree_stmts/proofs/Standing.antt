@@ -26,9 +26,9 @@ use Rattle.c65_agree_state.specs.World.{World, unit_in, program_in, total_in, ow
 use Rattle.c65_agree_state.specs.Joins.{Joins}
 use Rattle.c65_agree_state.specs.Follows.{Follows}
 use Rattle.c65_agree_state.specs.Exprs.{Ready, Kept, Tells}
-use Rattle.c65_agree_state.specs.Stmts.{Between, Keeping}
+use Rattle.c65_agree_between.specs.Stmts.{Between, Keeping}
 use Rattle.c65_agree_state.proofs.Followed.{follows_weaken, steps_earn, heads_count, ready_is_calm}
-use Rattle.c65_agree_state.proofs.Parts.{between_is_ready, between_stays, keeping_goes_on}
+use Rattle.c65_agree_between.proofs.Between.{between_is_ready, between_stays, keeping_goes_on}
 use Rattle.c65_agree_state.proofs.Tests as tests
 use Rattle.c65_agree_stmts.specs.Calling.{Calling, HasTest, HasEffect}
 
@@ -73,6 +73,8 @@ turned_joins g a c w k t j = record {
   bank = j.bank;
   symbols = j.symbols;
   fixed = record { own = j.fixed.own; objects = j.fixed.objects; once = j.fixed.once };
+  sizes = j.sizes;
+  sized = j.sized;
   fresh = j.fresh;
   homes = j.homes;
   rests = λ b e. let r = j.rests b e in record { block = r.block; is = r.is; place = r.place; size = r.size };
@@ -95,6 +97,7 @@ turned_joins g a c w k t j = record {
   count_free = j.count_free;
   frames = j.frames;
   input = j.input;
+  read = j.read;
   output = j.output;
   ended = j.ended;
   bytes = j.bytes;

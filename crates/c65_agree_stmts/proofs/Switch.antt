@@ -36,7 +36,7 @@ use Rattle.c65_agree_store.specs.Stands.{Placing, Banks}
 use Rattle.c65_agree_state.specs.World.{unit_in, lines_of, place_in, HasAt, IsPlaced, HasTurns, HasCome}
 use Rattle.c65_agree_state.specs.Follows.{Follows}
 use Rattle.c65_agree_state.specs.Exprs.{Valued, shape_in, MayFit, ResultIs, Does as LinesDo}
-use Rattle.c65_agree_state.specs.Stmts.{arms_weight}
+use Rattle.c65_agree_between.specs.Stmts.{arms_weight}
 use Rattle.c65_agree_state.proofs.Followed.{follows_weaken}
 use Rattle.c65_agree_state.proofs.Nodes.{has_front, has_back}
 use Rattle.c65_agree_state.proofs.Yields.{value_yields}

@@ -19,7 +19,7 @@ use Rattle.c65_agree_store.specs.Stands.{Placing, Banks}
 use Rattle.c65_agree_state.specs.World.{World, unit_in, Active, lines_of, place_in, owned_at, HasAt, HasTurns}
 use Rattle.c65_agree_state.specs.Follows.{Follows}
 use Rattle.c65_agree_state.specs.Exprs.{Valued, yield_of, MayFit, width_in, shape_in, ExpressionDoes, TestDoes}
-use Rattle.c65_agree_state.specs.Stmts.{Between, Keeping, Covers, GoesOn, LeadsTo, LabelLeads, ReturnLeads, arms_weight, StatementDoes}
+use Rattle.c65_agree_between.specs.Stmts.{Between, Keeping, Covers, GoesOn, LeadsTo, LabelLeads, ReturnLeads, arms_weight, StatementDoes}
 use Rattle.c65_agree_lines.specs.Lists.{stmt_code, stmts_code, last_code}
 use Rattle.c65_agree_stmts.specs.Effects.{EffectDoes}
 

@@ -18,7 +18,7 @@ use Rattle.c65_agree_store.specs.Stands.{Placing, Banks}
 use Rattle.c65_agree_state.specs.World.{lines_of, place_in, HasAt, HasTurns, HasCome}
 use Rattle.c65_agree_state.specs.Follows.{Follows}
 use Rattle.c65_agree_state.specs.Exprs.{Valued, ResultIs, Kept}
-use Rattle.c65_agree_state.specs.Stmts.{Between}
+use Rattle.c65_agree_between.specs.Stmts.{Between}
 use Rattle.c65_agree_stmts.specs.Calling.{Calling}
 
 -- the label of the first case with the value, where there is one

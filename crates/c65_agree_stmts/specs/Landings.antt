@@ -9,7 +9,7 @@ use Rattle.c65_genstmt.specs.declared.jumps.Ways.{Ways}
 use Rattle.c65_genstmt.specs.Jumps.{following}
 use Rattle.c65_genstmt.specs.Stmts.{case_behind, returns_last}
 use Rattle.c65_agree_state.specs.World.{unit_in, lines_of, HasAt}
-use Rattle.c65_agree_state.specs.Stmts.{Covers, GoesOn, LeadsTo, LabelLeads, ReturnLeads, arms_weight}
+use Rattle.c65_agree_between.specs.Stmts.{Covers, GoesOn, LeadsTo, LabelLeads, ReturnLeads, arms_weight}
 use Rattle.c65_agree_lines.specs.Lists.{stmt_code, stmts_code, last_code}
 use Rattle.c65_agree_stmts.specs.Calling.{Calling, EndsIn}
 

@@ -26,7 +26,7 @@ use Rattle.c65_agree_store.specs.Stands.{Placing, Banks}
 use Rattle.c65_agree_state.specs.World.{World, unit_in, Active, lines_of, place_in, HasAt, IsPlaced, HasTurns}
 use Rattle.c65_agree_state.specs.Follows.{Follows}
 use Rattle.c65_agree_state.specs.Exprs.{Yield, Does as LinesDo, shape_in}
-use Rattle.c65_agree_state.specs.Stmts.{Between, Keeping, GoesOn, LabelLeads, ReturnLeads, arms_weight}
+use Rattle.c65_agree_between.specs.Stmts.{Between, Keeping, GoesOn, LabelLeads, ReturnLeads, arms_weight}
 use Rattle.c65_agree_lines.specs.Lists.{effects_uses, guard_uses, head_uses, stmt_uses, last_code}
 use Rattle.c65_agree_stmts.specs.Effects.{Effects}
 use Rattle.c65_agree_stmts.specs.Calling.{Calling, Does, AllDo, EndsIn, LastDoes, HasValue, HasTest, HasEffect, MayHaveTest, MayHaveEffect, HasResult, HeadIsCounted, GotosAreCounted}

@@ -16,7 +16,7 @@ use Rattle.c65_genstmt.specs.Jumps.{following}
 use Rattle.c65_genstmt.specs.Stmts.{case_behind, ways, default_way}
 use Rattle.c65_agree_state.specs.World.{unit_in}
 use Rattle.c65_agree_state.specs.Exprs.{shape_in}
-use Rattle.c65_agree_state.specs.Stmts.{arms_weight}
+use Rattle.c65_agree_between.specs.Stmts.{arms_weight}
 use Rattle.c65_agree_lines.specs.Lists.{effects_uses, guard_uses, head_uses, stmt_uses}
 use Rattle.c65_agree_stmts.specs.Calling.{Calling, Does, HasValue, HasTest, HasEffect, MayHaveTest, MayHaveEffect, HasResult, HeadIsCounted, GotosAreCounted}
 use Rattle.c65_agree_stmts.specs.Objects.{MayAllBegin, MayLand}

@@ -1,3 +1,4 @@
 pub mod Keep
 pub mod Read
 pub mod Areas
+pub mod Moved

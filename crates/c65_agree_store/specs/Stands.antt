@@ -2,7 +2,7 @@
 use Rattle.std.specs.Prelude.{◌≡◌, ℕ, zero, suc, ◌+◌, ◌/◌, ◌%◌, ◌<◌, ◌≤◌, true, List, [], ◌∷◌, Option, Some, bit_and}
 use Rattle.c65_ints.specs.Ranges.{residue}
 use Rattle.c65_meaning.specs.Store.{Cell, Bits, Piece, Clouded, Block, Store, Value, Whole, Null, Place, Opaque, Cells, NoValue}
-use Rattle.c65_code.specs.LineState.{Bytes}
+use Rattle.c65_code.specs.LineState.{Bytes, State}
 
 -- where a block stands: from an address on, or from a byte of regbank on, as the call with so many calls behind it has it
 pub data Spot : Type 0 where
@@ -30,6 +30,11 @@ beyond (Banked d i) o = Banked d (i + o)
 abbrev pub byte_in : Bytes → Banks → Spot → ℕ → ℕ
 byte_in m k (At a) o = m (a + o)
 byte_in m k (Banked d i) o = k d (i + o)
+
+-- the machine's byte so far behind a spot
+abbrev pub stored_at : State → Spot → ℕ → ℕ
+stored_at t (At at) o = t.mem (at + o)
+stored_at t (Banked d i) o = t.zp (20 + (i + o))
 
 -- the two bytes of an address
 abbrev pub part_of : ℕ → ℕ → ℕ

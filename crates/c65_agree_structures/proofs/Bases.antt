@@ -30,6 +30,8 @@ use Rattle.c65_genexpr.specs.declared.wanted.Wanted.TheVariants as wanted
 use Rattle.c65_genexpr.specs.Places.{more, soft_place, place_at, place_of, soft_code, code_at, target_code}
 use Rattle.c65_genexpr.specs.Code.{node_code, base_code}
 use Rattle.c65_agree_store.specs.Stands.{Spot, At, Banked, Placing, Banks, ValueIs, LiesIn, IsAt, beyond}
+use Rattle.c65_agree_state.specs.Fixed.{symbol_at}
+use Rattle.c65_agree_state.specs.Joins.{spot_of}
 use Rattle.c65_agree_state.specs.World.{World, unit_in, Active, lines_of, place_in, HasAt, HasTurns}
 use Rattle.c65_agree_state.specs.Follows.{Follows}
 use Rattle.c65_agree_state.specs.Exprs.{Ready, Kept, Yield, Valued, Placed, Registered, is_area, yield_of, MayFit, ResultIs, Does, shape_in, width_in}
@@ -41,8 +43,8 @@ use Rattle.c65_agree_frame.proofs.Entries.{append_end}
 use Rattle.c65_agree_load.specs.Loads.{IsMeantThere}
 use Rattle.c65_agree_load.specs.Objects.{IsHomed}
 use Rattle.c65_agree_load.proofs.Kept.{is_on, kept_later}
-use Rattle.c65_agree_structures.specs.Bases.{IsToldBy, AddressesAreBases, ObjectsAreBases}
-use Rattle.c65_agree_structures.proofs.Addresses.{address_regs, address_is, address_leads}
+use Rattle.c65_agree_structures.specs.Bases.{IsStanding, IsToldBy, AddressesAreBases, ObjectsAreBases}
+use Rattle.c65_agree_registers.proofs.Addresses.{address_regs, address_is, address_leads}
 
 -- ---- an address in AX
 
@@ -81,12 +83,15 @@ module _ (f : Framed) (pushed fresh : ℕ) where
 
 -- a block whose address is in AX
 module _ (g : World) (a : Active) (c : Scene) (w : Placing) (t : State) where
-  pub far_is_meant : (b o : ℕ) → ValueIs w 65536 (values.Place b o) (ax_of t) → IsMeantThere g a c w t (Far 0) b o
-  far_is_meant b o result x q is =
+  far_meant : (b o : ℕ) → ValueIs w 65536 (values.Place b o) (ax_of t) → IsMeantThere g a c w t (Far 0) b o
+  far_meant b o result x q is =
       let one : Some q ≡ Some (At result.0) = sym is.place ∙ result.1 in
       let same : q ≡ At result.0 = cc in
       let there : ax_of t + 0 ≡ result.0 + o = omega (arith, result.2) in
       (subst (IsReached a) (sym same) tt, ap At there ∙ ap (λ s. beyond s o) (sym same))
+
+  pub far_is_meant : (b o : ℕ) → ValueIs w 65536 (values.Place b o) (ax_of t) → IsStanding g a c w t (Far 0) b o
+  far_is_meant b o result = ((At result.0, result.1), far_meant b o result)
 
   -- as the value of a structure or union is its place or its cells
   far_is_told : (size : ℕ) (in_memory : Bool) (v : Value) → ResultIs (if in_memory then Placed else Valued) w (width_in (Area size)) v t → MayFit (if in_memory then Placed else Valued) (Area size) v → IsToldBy g a (Far 0) c w t v
@@ -129,7 +134,7 @@ module _ (g : World) (a : Active) (t : QTy) (i : ℕ) (placed : IsPlacement g.co
   itself = record { joins = r.joins; sp = refl; frames = refl; next = omega arith; bounds = λ d lt. refl; grows = λ d z e. e; kept = λ m le f. (refl, f); banks = λ d m lt. refl; own_bank = λ m le. refl; none_pushed = r.none_pushed }
 
   -- the block of the object stands at its home
-  module _ (m : ℕ) (home : (x : Block) (z : Spot) → IsAt c.store q m x z → z ≡ spot_in g a s (home_place g pushed i (home_of a.frame i))) (j : ℕ) (lt : j < n) where
+  module _ (m : ℕ) (stood : (z : Spot) × (q m ≡ Some z)) (home : (x : Block) (z : Spot) → IsAt c.store q m x z → z ≡ spot_in g a s (home_place g pushed i (home_of a.frame i))) (j : ℕ) (lt : j < n) where
     abbrev Goes : Place → List Line → Type 0
     Goes place lines = HasAt (lines_of g a) p lines → Behind place lines → Follows g j (w + 4000) (Running k (values.Place m 0 ∷ vs) c) (place_in g a p) s seen
 
@@ -143,9 +148,12 @@ module _ (g : World) (a : Active) (t : QTy) (i : ℕ) (placed : IsPlacement g.co
 
     at_symbol : home_of a.frame i ≡ None → IsToldBy g a (Data (object_symbol (numbers_of g.parts) i) 0) c q s (values.Place m 0)
     at_symbol e = (
-      λ x z at.
-          let there : z ≡ spot_in g a s (Data (object_symbol (numbers_of g.parts) i) 0) = home x z at ∙ ap (λ h. spot_in g a s (home_place g pushed i h)) e in
-          (subst (IsReached a) (sym there) tt, sym there ∙ beyond_none z),
+      (
+        stood,
+        λ x z at.
+            let there : z ≡ spot_in g a s (Data (object_symbol (numbers_of g.parts) i) 0) = home x z at ∙ ap (λ h. spot_in g a s (home_place g pushed i h)) e in
+            (subst (IsReached a) (sym there) tt, sym there ∙ beyond_none z),
+      ),
       omega arith,
       tt,
     )
@@ -166,10 +174,13 @@ module _ (g : World) (a : Active) (t : QTy) (i : ℕ) (placed : IsPlacement g.co
 
       near_told : at ≤ 252 → IsToldBy g a (Near at) c q s (values.Place m 0)
       near_told few = (
-        λ x z is.
-            let low = is_low x z is in
-            let there : z ≡ At (sp_of s + at) = in_frame x z is ∙ ap (λ y. At (sp_of s + y)) (sym low.0) in
-            (subst (IsReached a) (sym there) tt, sym there ∙ beyond_none z),
+        (
+          stood,
+          λ x z is.
+              let low = is_low x z is in
+              let there : z ≡ At (sp_of s + at) = in_frame x z is ∙ ap (λ y. At (sp_of s + y)) (sym low.0) in
+              (subst (IsReached a) (sym there) tt, sym there ∙ beyond_none z),
+        ),
         few,
         tt,
       )
@@ -177,13 +188,16 @@ module _ (g : World) (a : Active) (t : QTy) (i : ℕ) (placed : IsPlacement g.co
       -- behind the lines of its address
       far_told : (u : State) → u ≡ record s { regs = address_regs s at } → IsToldBy g a (Far 0) c q u (values.Place m 0)
       far_told u is_u = (
-        λ x z is.
-            let low = is_low x z is in
-            let ax : ax_of u ≡ sp_of s + at = ap ax_of is_u ∙ address_is s at (r.joins.bytes.zp 0) low.1 in
-            let same = low.0 in
-            let word : ax_of u + 0 ≡ sp_of s + (d + pushed) = omega (arith, ax, same) in
-            let there : At (ax_of u + 0) ≡ z = ap At word ∙ sym (in_frame x z is) in
-            (subst (IsReached a) (sym (in_frame x z is)) tt, there ∙ beyond_none z),
+        (
+          stood,
+          λ x z is.
+              let low = is_low x z is in
+              let ax : ax_of u ≡ sp_of s + at = ap ax_of is_u ∙ address_is s at (r.joins.bytes.zp 0) low.1 in
+              let same = low.0 in
+              let word : ax_of u + 0 ≡ sp_of s + (d + pushed) = omega (arith, ax, same) in
+              let there : At (ax_of u + 0) ≡ z = ap At word ∙ sym (in_frame x z is) in
+              (subst (IsReached a) (sym (in_frame x z is)) tt, there ∙ beyond_none z),
+        ),
         omega arith,
         tt,
       )
@@ -216,12 +230,12 @@ module _ (g : World) (a : Active) (t : QTy) (i : ℕ) (placed : IsPlacement g.co
   module _ (has : HasAt (lines_of g a) p base) (rest : Behind place base) (j : ℕ) (lt : j < n) where
     own_goes : (m : Option ℕ) → block_in c.frames i ≡ m → Follows g j (w + 4000) (go_on (steps.place_in m) k vs c) (place_in g a p) s seen
     own_goes None e = nothing_follows g Unfit j (w + 4000) (place_in g a p) s seen
-    own_goes (Some m) e = by_home m (λ x z is. objects_are_at_home g a pushed 0 c q b s i m x z r e is homed.low) j lt (home_of a.frame i) refl has rest
+    own_goes (Some m) e = by_home m (spot_of g a i, r.joins.homes i m e) (λ x z is. objects_are_at_home g a pushed 0 c q b s i m x z r e is homed.low) j lt (home_of a.frame i) refl has rest
 
     fixed_goes : lives_in_frame (object_in (unit_in g) i) ≡ false → Follows g j (w + 4000) (Running k (values.Place (object_block (unit_in g) i) 0 ∷ vs) c) (place_in g a p) s seen
     fixed_goes lasts =
         let home : home_place g pushed i (home_of a.frame i) ≡ Data (object_symbol (numbers_of g.parts) i) 0 = ap (home_place g pushed i) (homed.fixed lasts).0 in
-        by_home (object_block (unit_in g) i) (λ x z is. objects_are_at_symbols g a c q b s i x z r.joins lasts (homed.fixed lasts).1 is ∙ ap (spot_in g a s) (sym home)) j lt (home_of a.frame i) refl has rest
+        by_home (object_block (unit_in g) i) (At (symbol_at g i), r.joins.symbols.objects i lasts (homed.fixed lasts).1) (λ x z is. objects_are_at_symbols g a c q b s i x z r.joins lasts (homed.fixed lasts).1 is ∙ ap (spot_in g a s) (sym home)) j lt (home_of a.frame i) refl has rest
 
     goes : (lives : Bool) → lives_in_frame (object_in (unit_in g) i) ≡ lives → Follows g j (w + 4000) (go_on (if lives then steps.place_in (block_in c.frames i) else Ok (values.Place (object_block (unit_in g) i) 0)) k vs c) (place_in g a p) s seen
     goes true e = own_goes (block_in c.frames i) refl

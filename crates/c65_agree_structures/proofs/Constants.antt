@@ -40,7 +40,7 @@ use Rattle.c65_agree_structures.proofs.Pointers.{sum_lines, told_by_value}
 -- ---- numbers of bytes
 
 -- the generator adds as many bytes as the meaning, modulo 2 to the 32
-added_word : (size o to : ℕ) (z : ℤ) → size < 65536 → to ≤ 65520 → pos o +ℤ (pos size *ℤ z) ≡ pos to → (o + residue_of z * size % 4294967296) % 4294967296 ≡ to
+pub added_word : (size o to : ℕ) (z : ℤ) → size < 65536 → to ≤ 65520 → pos o +ℤ (pos size *ℤ z) ≡ pos to → (o + residue_of z * size % 4294967296) % 4294967296 ≡ to
 added_word size o to z few low e =
     let product : residue 4294967296 (pos size *ℤ z) ≡ residue_of z * size % 4294967296 =
     product_word (pos size) z Eax ∙ ap (λ n. n * residue_of z % 4294967296) (mod-eq_of_lt (omega (arith, few))) ∙ ap (λ n. n % 4294967296) (mul_comm size (residue_of z)) in
@@ -88,7 +88,7 @@ module _ (g : World) (a : Active) (size : ℕ) (kind : IntType) (t s q : QTy) (x
   abbrev count : ℕ
   count = residue_of z * step % 4294967296
 
-  added_is : added_bytes Add (operands_of a.frame (bare x) (type_in s)) (Some z) ≡ Some count
+  pub added_is : added_bytes Add (operands_of a.frame (bare x) (type_in s)) (Some z) ≡ Some count
   added_is =
       ap (λ (y : Ty). added_bytes Add (operands_of a.frame y (type_in s)) (Some z)) names ∙ ap (λ (y : Ty). added_bytes Add (operands_of a.frame (pointer q) y) (Some z)) number ∙ ap (λ n. Some (residue_of z * n % 4294967296)) bytes_are
 

@@ -2,7 +2,6 @@ pub mod Sizes
 pub mod Cells
 pub mod Loads
 pub mod Results
-pub mod Addresses
 pub mod Bases
 pub mod Packs
 pub mod Spilling
@@ -13,3 +12,4 @@ pub mod Members
 pub mod Pointers
 pub mod Takers
 pub mod Constants
+pub mod Moved

@@ -20,11 +20,11 @@ use Rattle.c65_genload.specs.Words.{sp, sreg, implied, zero_page, by_y}
 use Rattle.c65_genload.specs.Places.{byte_more, word_more}
 use Rattle.c65_genload.specs.Loads.{bytes_code, near_code, data_code, far_code}
 use Rattle.c65_agree_store.specs.Laws.{number_in}
-use Rattle.c65_agree_store.specs.Stands.{Spot, At, Banked, Placing, Banks}
+use Rattle.c65_agree_store.specs.Stands.{Spot, At, Banked, Placing, Banks, stored_at}
 use Rattle.c65_agree_state.specs.World.{World, Active}
 use Rattle.c65_agree_state.specs.Exprs.{Ready, Kept}
 use Rattle.c65_agree_state.proofs.Parts.{kept_goes_on}
-use Rattle.c65_agree_places.specs.Places.{spot_in, stored_at}
+use Rattle.c65_agree_places.specs.Places.{spot_in}
 use Rattle.c65_agree_numbers.proofs.Tests.{at_most}
 use Rattle.c65_agree_rows.specs.Laws.{Runs, IsKeptWith}
 use Rattle.c65_agree_rows.proofs.Families.{HasRow, kept_runs}

@@ -45,7 +45,7 @@ use Rattle.c65_agree_frame.proofs.Entries.{append_end}
 use Rattle.c65_agree_load.specs.Loads.{IsNear, IsMeantThere}
 use Rattle.c65_agree_load.proofs.Kept.{is_on, kept_later}
 use Rattle.c65_agree_structures.specs.Areas.{IsInMemory}
-use Rattle.c65_agree_structures.specs.Bases.{IsToldBy, BaseDoes}
+use Rattle.c65_agree_structures.specs.Bases.{IsStanding, IsToldBy, BaseDoes}
 use Rattle.c65_agree_structures.specs.Copies.{AddressDoes}
 use Rattle.c65_agree_structures.specs.Members.{MembersHaveAddresses, MembersAreBases}
 use Rattle.c65_agree_structures.proofs.Bases.{far_is_meant}
@@ -73,7 +73,7 @@ moved_by s b o d v false y lives sum e = cc
 pub is_moved : (s : Store) (b o : ℕ) (d : ℤ) (v : Value) → operators.moved s (values.Place b o) d ≡ Ok v → IsMoved s b o d v
 is_moved s b o d v e = moved_by s b o d v (is_live s b) (pos o +ℤ d) refl refl e
 
-pos_same : (m n : ℕ) → pos m ≡ pos n → m ≡ n
+pub pos_same : (m n : ℕ) → pos m ≡ pos n → m ≡ n
 pos_same m n e = omega (arith, ints)
 
 -- the block that lives
@@ -107,7 +107,7 @@ offset_same : (o : Option MemberTy) → offset_in o ≡ offset_of o
 offset_same None = refl
 offset_same (Some m) = refl
 
-offset_is : (g : World) (a : Active) (e : Typed) (m : ℕ) → a.frame.parts ≡ g.parts → offset_at (types_of a.frame.parts.types) (bare e) m ≡ offset_of (member_at (unit_in g).types (bare_type e) m)
+pub offset_is : (g : World) (a : Active) (e : Typed) (m : ℕ) → a.frame.parts ≡ g.parts → offset_at (types_of a.frame.parts.types) (bare e) m ≡ offset_of (member_at (unit_in g).types (bare_type e) m)
 offset_is g a e m parts = ap (λ (p : Parts). offset_at (types_of p.types) (bare e) m) parts ∙ offset_same (member_at (unit_in g).types (bare_type e) m)
 
 -- ---- addresses
@@ -195,17 +195,17 @@ module _ (g : World) (a : Active) (c : Scene) (w : Placing) (k : Banks) (u : Sta
   spot_same : {m l : ℕ} → At m ≡ At l → m ≡ l
   spot_same e = cc
 
-  near_moved : (at : ℕ) → IsMeantThere g a c w u (Near at) b o → IsNear (Near at) → (first second : Bool) → nat_le n 252 ≡ first → nat_le (at + n) 252 ≡ second → first && second ≡ true → IsToldBy g a (if first then (if second then Near (at + n) else Far 0) else Far 0) c w u (values.Place b to)
+  near_moved : (at : ℕ) → IsStanding g a c w u (Near at) b o → IsNear (Near at) → (first second : Bool) → nat_le n 252 ≡ first → nat_le (at + n) 252 ≡ second → first && second ≡ true → IsToldBy g a (if first then (if second then Near (at + n) else Far 0) else Far 0) c w u (values.Place b to)
   near_moved at meant near_one true true h1 h2 has =
       let few : n ≤ 252 = grind (arith, nat_tests) in
-      (by_spot (Near at) meant (Near (at + n)) (λ l low whole e. let same = spot_same e in ap At (omega (arith, same, whole, few, near_one, low_sp))) tt, grind (arith, nat_tests), tt)
+      ((meant.0, by_spot (Near at) meant.1 (Near (at + n)) (λ l low whole e. let same = spot_same e in ap At (omega (arith, same, whole, few, near_one, low_sp))) tt), grind (arith, nat_tests), tt)
   near_moved at meant near_one true false h1 h2 has = absurd cc
   near_moved at meant near_one false second h1 h2 has = absurd cc
 
-  far_moved : (at : ℕ) → IsMeantThere g a c w u (Far at) b o → IsNear (Far at) → (first second : Bool) → nat_le n 250 ≡ first → nat_le (at + n) 250 ≡ second → first && second ≡ true → IsToldBy g a (Far (if first && second then at + n else 0)) c w u (values.Place b to)
+  far_moved : (at : ℕ) → IsStanding g a c w u (Far at) b o → IsNear (Far at) → (first second : Bool) → nat_le n 250 ≡ first → nat_le (at + n) 250 ≡ second → first && second ≡ true → IsToldBy g a (Far (if first && second then at + n else 0)) c w u (values.Place b to)
   far_moved at meant near_one true true h1 h2 has =
       let few : n ≤ 250 = grind (arith, nat_tests) in
-      (by_spot (Far at) meant (Far (at + n)) (λ l low whole e. let same = spot_same e in ap At (omega (arith, same, whole, few, near_one, low_ax))) tt, grind (arith, nat_tests), tt)
+      ((meant.0, by_spot (Far at) meant.1 (Far (at + n)) (λ l low whole e. let same = spot_same e in ap At (omega (arith, same, whole, few, near_one, low_ax))) tt), grind (arith, nat_tests), tt)
   far_moved at meant near_one true false h1 h2 has = absurd cc
   far_moved at meant near_one false second h1 h2 has = absurd cc
 
@@ -213,7 +213,7 @@ module _ (g : World) (a : Active) (c : Scene) (w : Placing) (k : Banks) (u : Sta
   told_on (Bank at) has h = absurd h.2
   told_on (Near at) has h = near_moved at h.0 h.1 (nat_le n 252) (nat_le (at + n) 252) refl refl has
   told_on (Data s at) has h =
-      (by_spot (Data s at) h.0 (Data s (more at (n % 65536))) (λ l low whole e. let same = spot_same e in ap At (omega (arith, same, low, whole))) tt, omega arith, tt)
+      ((h.0.0, by_spot (Data s at) h.0.1 (Data s (more at (n % 65536))) (λ l low whole e. let same = spot_same e in ap At (omega (arith, same, low, whole))) tt), omega arith, tt)
   told_on (Far at) has h = far_moved at h.0 h.1 (nat_le n 250) (nat_le (at + n) 250) refl refl has
 
 -- one that is not told so is told by its address

@@ -14,7 +14,7 @@ use Rattle.c65_agree_state.specs.World.{World, Active}
 use Rattle.c65_agree_frame.specs.Leads.{Leads, IsOn}
 use Rattle.c65_agree_frame.proofs.Entries.{append_end}
 use Rattle.c65_agree_frame.proofs.Leads.{kept_regs, none_leads, leads_as, after_lines, lines_lead}
-use Rattle.c65_agree_structures.proofs.Addresses.{sum_is}
+use Rattle.c65_agree_registers.proofs.Addresses.{sum_is}
 
 -- other registers alone, and so many more in AX where the sum is an address
 pub record IsOffset (n : ℕ) (t u : State) : Type 0 where

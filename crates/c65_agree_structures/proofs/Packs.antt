@@ -132,7 +132,7 @@ module _ (g : World) (a : Active) (placed : IsPlacement g.code g.place) (e : Typ
         go false live fits _ = nothing_follows g (By EndedObject) i (w + 2600 + 4000) (place_in g a (p + length told)) u later
 
     gathered : (v : Value) → IsToldBy g a place c2 q2 u v → Follows g i (w + 2600 + 4000) (go_on (gathered_at size c2 v) k vs c2) (place_in g a (p + length told)) u later
-    gathered (values.Place m o) h = in_block m o h.0 h.1 h.2 (c2.store m) refl
+    gathered (values.Place m o) h = in_block m o h.0.1 h.1 h.2 (c2.store m) refl
     gathered (Whole z) h = nothing_follows g (unusable (Whole z)) i (w + 2600 + 4000) (place_in g a (p + length told)) u later
     gathered Null h = nothing_follows g (unusable Null) i (w + 2600 + 4000) (place_in g a (p + length told)) u later
     gathered Opaque h = nothing_follows g (unusable Opaque) i (w + 2600 + 4000) (place_in g a (p + length told)) u later

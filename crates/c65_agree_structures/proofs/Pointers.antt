@@ -43,7 +43,7 @@ use Rattle.c65_agree_structures.proofs.Bases.{far_is_meant}
 -- ---- what a pointer names
 
 -- a place while its block lives, and nothing that is defined behind another value
-follows_target : (g : World) (a : Active) (n weight p : ℕ) (k : List Item) (vs : List Value) (c : Scene) (t : State) (seen : Seen) (v : Value)
+pub follows_target : (g : World) (a : Active) (n weight p : ℕ) (k : List Item) (vs : List Value) (c : Scene) (t : State) (seen : Seen) (v : Value)
     → ((b o : ℕ) → v ≡ values.Place b o → Follows g n weight (Running k (values.Place b o ∷ vs) c) (place_in g a p) t seen)
     → Follows g n weight (go_on (named_by c.store v) k vs c) (place_in g a p) t seen
 follows_target g a n weight p k vs c t seen (values.Place b o) goes = go (is_live c.store b)
@@ -114,7 +114,7 @@ module _ (f : Framed) (pushed fresh : ℕ) where
   own_base t (spill i x) h = (append_end (node_code f pushed fresh wanted.Value t (spill i x)), refl)
   own_base t further h = (append_end (node_code f pushed fresh wanted.Value t further), refl)
 
-pointer_is_told : (g : World) (a : Active) (c : Scene) (w : Placing) (u : State) (size : ℕ) (v : Value) → ResultIs Valued w (width_in (Pointer size)) v u → IsToldBy g a (Far 0) c w u v
+pub pointer_is_told : (g : World) (a : Active) (c : Scene) (w : Placing) (u : State) (size : ℕ) (v : Value) → ResultIs Valued w (width_in (Pointer size)) v u → IsToldBy g a (Far 0) c w u v
 pointer_is_told g a c w u size (values.Place b o) is = (far_is_meant g a c w u b o is, omega arith, tt)
 pointer_is_told g a c w u size (Whole z) is = tt
 pointer_is_told g a c w u size Null is = tt

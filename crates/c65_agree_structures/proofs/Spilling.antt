@@ -26,7 +26,7 @@ use Rattle.c65_agree_put.proofs.Stores.{HasFour, four_bytes}
 use Rattle.c65_agree_frame.specs.Leads.{IsOn}
 use Rattle.c65_agree_load.specs.Loads.{bytes_of}
 use Rattle.c65_agree_part.proofs.Lines.{IsLike, like_itself, like_registers, like_scratch, same_sp, HasConstants, calm_like, line_goes, through_goes, filled, filled_constants}
-use Rattle.c65_agree_structures.proofs.Addresses.{address_regs, address_is, address_leads}
+use Rattle.c65_agree_registers.proofs.Addresses.{address_regs, address_is, address_leads}
 
 module _ (g : World) (a : Active) (placed : IsPlacement g.code g.place) (t : State) (on : IsOn g t) (constants : HasConstants g t.mem) (at to size : ℕ) (small : at < 65536) (to_is : sp_of t + at ≡ to) (some : 1 ≤ size) (most : size ≤ 4) (inside : to + size ≤ 65520)
     (opened : (i : ℕ) → i < size → IsOpen g.place (sp_of t) (to + i)) (varying : (i : ℕ) → i < size → g.place.constant (to + i) ≡ None) (n turns : ℕ) (m : meaning.State) where

@@ -3,9 +3,8 @@ use Rattle.std.specs.Prelude.{◌≡◌, ℕ, ◌<◌}
 use Rattle.c65_code.specs.LineState.{State, eax_of}
 use Rattle.c65_genload.specs.declared.places.Place.{Place}
 use Rattle.c65_genload.specs.declared.places.Place.TheVariants.{Bank}
-use Rattle.c65_agree_store.specs.Stands.{Spot}
+use Rattle.c65_agree_store.specs.Stands.{Spot, stored_at}
 use Rattle.c65_agree_store.specs.Laws.{byte_of}
-use Rattle.c65_agree_places.specs.Places.{stored_at}
 
 -- A, X and sreg have so many bytes from the spot on, the lowest first
 abbrev pub HasBytes : ℕ → Spot → State → State → Type 0

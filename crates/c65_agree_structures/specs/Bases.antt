@@ -18,7 +18,7 @@ use Rattle.c65_genload.specs.declared.places.Place.{Place}
 use Rattle.c65_genexpr.specs.declared.destination.Destination.TheVariants.{Registers}
 use Rattle.c65_genexpr.specs.Places.{place_of}
 use Rattle.c65_genexpr.specs.Code.{base_code}
-use Rattle.c65_agree_store.specs.Stands.{Placing, Banks}
+use Rattle.c65_agree_store.specs.Stands.{Spot, Placing, Banks}
 use Rattle.c65_agree_state.specs.World.{World, unit_in, Active, lines_of, place_in, HasAt, HasTurns}
 use Rattle.c65_agree_state.specs.Follows.{Follows}
 use Rattle.c65_agree_state.specs.Exprs.{Ready, Kept, shape_in, ExpressionDoes}
@@ -26,9 +26,13 @@ use Rattle.c65_agree_load.specs.Loads.{IsNear, IsMeantThere}
 use Rattle.c65_agree_load.specs.Objects.{IsHomed}
 use Rattle.c65_agree_structures.specs.Areas.{IsInMemory}
 
+-- a block has a place, and while it lives that is where the generator's place tells
+abbrev pub IsStanding : World → Active → Scene → Placing → State → Place → ℕ → ℕ → Type 0
+IsStanding g a c w t place b o = ((q : Spot) × (w b ≡ Some q)) × IsMeantThere g a c w t place b o
+
 -- if the value is a place, its block stands where the lines may load that the generator's place tells
 abbrev pub IsToldBy : World → Active → Place → Scene → Placing → State → Value → Type 0
-IsToldBy g a place c w t (values.Place b o) = IsMeantThere g a c w t place b o × IsNear place × IsInMemory place
+IsToldBy g a place c w t (values.Place b o) = IsStanding g a c w t place b o × IsNear place × IsInMemory place
 IsToldBy g a place c w t v = Unit {0}
 
 module _ (g : World) (a : Active) where

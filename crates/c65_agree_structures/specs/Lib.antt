@@ -7,3 +7,4 @@ pub mod Spills
 pub mod Copies
 pub mod Members
 pub mod Takers
+pub mod Moved

@@ -3,10 +3,11 @@ ghost use Rattle.c65_agree_structures.specs.Bases.{AddressesAreBases, ObjectsAre
 ghost use Rattle.c65_agree_structures.specs.Copies.{CopiesDo, PlacesHaveAddresses};
 ghost use Rattle.c65_agree_structures.specs.Laws.{AreasAreLoaded};
 ghost use Rattle.c65_agree_structures.specs.Members.{ConstantSumsAreBases, MembersAreBases, MembersHaveAddresses, NamesAreBases, PointersAreBases, SumsAreBases, TargetsAreBases, TargetsHaveAddresses};
+ghost use Rattle.c65_agree_structures.specs.Moved.{MovedTypesHaveBytes, PlainSumsAreBases};
 ghost use Rattle.c65_agree_structures.specs.Packs.{PacksAreArguments, PacksAreResults, PacksDo};
 ghost use Rattle.c65_agree_structures.specs.Results.{NothingComesBack, ResultsComeBack, StructuresComeBack};
 ghost use Rattle.c65_agree_structures.specs.Spills.{SpillsDo};
-ghost use Rattle.c65_agree_structures.specs.Takers.{TakersAreHomed};
+ghost use Rattle.c65_agree_structures.specs.Takers.{ScopedTakersAreHomed, TakersAreHomed};
 
 /// A call that gives nothing leaves nothing.
 pub fn nothing_comes_back()
@@ -93,6 +94,11 @@ pub fn takers_are_homed()
     ensures { TakersAreHomed }
 {}
 
+/// So has each that is in scope.
+pub fn scoped_takers_are_homed()
+    ensures { ScopedTakersAreHomed }
+{}
+
 /// The value of a sum tells what it names.
 pub fn sums_are_bases()
     ensures { SumsAreBases }
@@ -111,4 +117,14 @@ pub fn targets_have_addresses()
 /// So has each place in memory.
 pub fn places_have_addresses()
     ensures { PlacesHaveAddresses }
+{}
+
+/// What the moved pointers of a plain program point to has bytes.
+pub fn moved_types_have_bytes()
+    ensures { MovedTypesHaveBytes }
+{}
+
+/// So a pointer with a constant added to it has a base.
+pub fn plain_sums_are_bases()
+    ensures { PlainSumsAreBases }
 {}

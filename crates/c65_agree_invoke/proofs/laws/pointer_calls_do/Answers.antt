@@ -1,4 +1,4 @@
-use Rattle.c65_agree_invoke.proofs.Stacked.{pointer_calls_do}
+use Rattle.c65_agree_invoke.proofs.Reaching.{pointer_calls_do}
 use Rattle.c65_agree_invoke.proofs.laws.pointer_calls_do.Goals as goal
 
 pub returns : goal.returns

@@ -1,0 +1,109 @@
+-- Sums of a pointer and a constant.
+use Rattle.std.proofs.Common.{◌≡◌, ℕ, ℤ, pos, suc, ◌+◌, ◌*◌, ◌%◌, ◌<◌, ◌≤◌, max, ◌*ℤ◌, List, ◌∷◌, Bool, true, false, refl, sym, ap, subst, arith}
+use Rattle.std.specs.Prelude.{if◌then◌else◌, length}
+use Rattle.c65_base.specs.declared.operators.BinaryOp.TheVariants.{Add}
+use Rattle.c65_ints.specs.declared.types.IntType.{IntType}
+use Rattle.c65_ctype.specs.Trees.{QTy, int, pointer, type_in}
+use Rattle.c65_ctype.specs.Sizes.{size_of}
+use Rattle.c65_csem.specs.Trees.{Typed, node, constant, binary}
+use Rattle.c65_csem_need.specs.Needs.{need}
+use Rattle.c65_meaning.specs.Store as values
+use Rattle.c65_meaning.specs.Store.{Whole, Shape, Number}
+use Rattle.c65_meaning.specs.Items.{Item, Push, Apply2, plan}
+use Rattle.c65_meaning.specs.Shapes.{shape_of}
+use Rattle.c65_meaning.specs.State.{Running}
+use Rattle.c65_code.specs.declared.line.Line.{Line}
+use Rattle.c65_code.specs.declared.line.Line.TheVariants.{Label}
+use Rattle.c65_code.specs.Placement.{IsPlacement}
+use Rattle.c65_genframe.specs.Frames.{type_bytes}
+use Rattle.c65_genload.specs.declared.places.Place.{Place}
+use Rattle.c65_genexpr.specs.declared.destination.Destination.TheVariants.{Pointer}
+use Rattle.c65_genexpr.specs.Types.{bare}
+use Rattle.c65_genexpr.specs.Operands.{residue_of}
+use Rattle.c65_genexpr.specs.Places.{moved, has_base, sum_has_base, sum_place, target_of}
+use Rattle.c65_genexpr.specs.Code.{pointer_base_code, sum_base_code}
+use Rattle.c65_agree_step.proofs.Ways.{labels_are_passed}
+use Rattle.c65_agree_state.specs.World.{World, unit_in, setting_in, Active, place_in, total_in, HasTurns}
+use Rattle.c65_agree_state.specs.Follows.{Follows}
+use Rattle.c65_agree_state.specs.Exprs.{Ready, shape_in, ExpressionDoes}
+use Rattle.c65_agree_state.specs.Joins.{Joins}
+use Rattle.c65_agree_state.proofs.Followed.{follows_weaken, steps_earn, ready_is_calm}
+use Rattle.c65_agree_state.proofs.Nodes.{ready_stays}
+use Rattle.c65_agree_structures.specs.Bases.{IsToldBy}
+use Rattle.c65_agree_structures.proofs.Members.{is_moved, moves, told_on, far_place}
+use Rattle.c65_agree_structures.proofs.Constants.{added_word, added_is}
+use Rattle.c65_agree_access.specs.Pointed.{with_pointer, TellsPointed, TargetPointedDoes}
+use Rattle.c65_agree_access.specs.PointedLaws.{ConstantSumsArePointed}
+use Rattle.c65_agree_access.proofs.Members.{pointer_ready}
+use Rattle.c65_agree_access.proofs.Sums.{sum_arrives, constant_comes}
+
+module _ (g : World) (a : Active) (placed : IsPlacement g.code g.place) (size : ℕ) (kind : IntType) (z : ℤ) (few : size < 65536) (needs pushed label : ℕ) (work : List Item → List Item) (place : Place) (base : List Line) (tells : TellsPointed g a work needs pushed place base) where
+  abbrev bytes : ℕ
+  bytes = residue_of z * size % 4294967296
+
+  abbrev add : Item
+  add = Apply2 Add (values.Pointer size) (Number kind)
+
+  by_base : has_base place bytes ≡ true → TellsPointed g a (λ k. work (Push (Whole z) ∷ add ∷ k)) (max needs (1 + 0)) pushed (moved place bytes) (Label label ∷ base)
+  by_base known n w p k vs c q b s seen has r turned rest =
+      let ends : suc p + length base ≡ p + length (Label label ∷ base) = omega arith in
+      let passed = labels_are_passed (setting_in g) a.symbol p label has.0 in
+      let ready : Ready g a pushed needs c q b s = record { joins = r.joins; sp = r.sp; room = omega (arith, r.room); none_pushed = r.none_pushed } in
+      subst (λ y. Follows g n w (Running (work (Push (Whole z) ∷ add ∷ k)) vs c) y s seen) (sym passed)
+      (tells n w (suc p) (Push (Whole z) ∷ add ∷ k) vs c q b s seen has.1 ready (subst (λ y. HasTurns g c.turns y seen) passed turned) (λ j v c2 q2 b2 u later lt kept told turned2.
+      let ready2 = ready_stays g a pushed needs needs c c2 q q2 b b2 s u (omega arith) ready kept in
+      let joins : Joins g a c2 q2 b2 (with_pointer u) = (pointer_ready g a pushed needs c2 q2 b2 u placed ready2).joins in
+      let calm = (ready_is_calm g a pushed needs c2 q2 b2 u ready2).calm in
+      let turns : c2.turns ≤ total_in g later = omega (arith, turned2) in
+      steps_earn g j (w + 2500) (Push (Whole z)) (add ∷ k) (v ∷ vs) c2 (place_in g a (suc p + length base)) u later calm kept.joins.output kept.joins.ended turns (λ i less.
+      steps_earn g i (w + 2500 + 4000) add k (Whole z ∷ v ∷ vs) c2 (place_in g a (suc p + length base)) u later calm kept.joins.output kept.joins.ended turns (λ l fewer.
+      moves g a l (w + 2500 + 4000 + 4000) (suc p + length base) k vs c2 u later (pos size *ℤ z) v (λ m o x same e.
+      let here = is_moved c2.store m o (pos size *ℤ z) x e in
+      let there : IsToldBy g a place c2 q2 (with_pointer u) (values.Place m o) = subst (IsToldBy g a place c2 q2 (with_pointer u)) same told in
+      let on : IsToldBy g a (moved place bytes) c2 q2 (with_pointer u) x =
+      subst (IsToldBy g a (moved place bytes) c2 q2 (with_pointer u)) (sym here.is) (told_on g a c2 q2 b2 (with_pointer u) joins m o bytes here.to here.inside (λ low. added_word size o here.to z few low here.sum) place known there) in
+      follows_weaken g l (w + 2500) (w + 2500 + 4000 + 4000) (Running k (x ∷ vs) c2) (place_in g a (suc p + length base)) u later (omega arith)
+      (subst (λ y. Follows g l (w + 2500) (Running k (x ∷ vs) c2) (place_in g a y) u later) (sym ends)
+      (rest l x c2 q2 b2 u later (omega (arith, lt, less, fewer)) kept on (subst (λ y. HasTurns g c2.turns (place_in g a y) later) ends turned2))))))))
+
+module _ (g : World) (a : Active) (placed : IsPlacement g.code g.place) (size : ℕ) (kind : IntType) (t s q : QTy) (x : Typed) (z : ℤ) (names : bare x ≡ pointer q) (number : type_in s ≡ int kind) (bytes_are : type_bytes a.frame (type_in q) ≡ size_of (unit_in g).types (type_in q)) (pushed fresh : ℕ) where
+  abbrev one : ℕ
+  one = size_of (unit_in g).types (type_in q)
+
+  abbrev sum : Typed
+  sum = node t (binary Add x (node s (constant z)))
+
+  abbrev count : ℕ
+  count = residue_of z * one % 4294967296
+
+  abbrev code : List Line
+  code = sum_base_code a.frame pushed fresh Pointer t Add x (node s (constant z))
+
+  abbrev lines : List Line
+  lines = pointer_base_code a.frame pushed (fresh + 1) Pointer x
+
+  abbrev Tells : Place → List Line → Type 0
+  Tells place ls = TellsPointed g a (plan (unit_in g) sum) (need sum) pushed place ls
+
+  based : one < 65536 → TargetPointedDoes g a x → has_base (target_of a.frame pushed x) count ≡ true → Tells (moved (target_of a.frame pushed x) count) (Label fresh ∷ lines)
+  based few does known =
+      let shape : shape_of (unit_in g).types (bare x) ≡ values.Pointer one = ap (shape_of (unit_in g).types) names in
+      let other : shape_of (unit_in g).types (type_in s) ≡ Number kind = ap (shape_of (unit_in g).types) number in
+      subst (λ (f : Shape). TellsPointed g a (λ k. plan (unit_in g) x (Push (Whole z) ∷ Apply2 Add f (shape_of (unit_in g).types (type_in s)) ∷ k)) (need sum) pushed (moved (target_of a.frame pushed x) count) (Label fresh ∷ lines)) (sym shape)
+      (subst (λ (f : Shape). TellsPointed g a (λ k. plan (unit_in g) x (Push (Whole z) ∷ Apply2 Add (values.Pointer one) f ∷ k)) (need sum) pushed (moved (target_of a.frame pushed x) count) (Label fresh ∷ lines)) (sym other)
+      (by_base g a placed one kind z few (need x) pushed fresh (plan (unit_in g) x) (target_of a.frame pushed x) lines (does pushed (fresh + 1)) known))
+
+  valued : shape_in g a sum ≡ values.Pointer size → ExpressionDoes g a sum → has_base (target_of a.frame pushed x) count ≡ false → Tells (moved (target_of a.frame pushed x) count) code
+  valued shape does none =
+      subst (λ y. Tells y code) (sym (far_place (target_of a.frame pushed x) count none))
+      (sum_arrives g a size t Add x (node s (constant z)) placed refl pushed fresh (constant_comes a.frame pushed x s z q kind names number) shape does)
+
+  by_place : one < 65536 → TargetPointedDoes g a x → shape_in g a sum ≡ values.Pointer size → ExpressionDoes g a sum → (known : Bool) → has_base (target_of a.frame pushed x) count ≡ known → Tells (moved (target_of a.frame pushed x) count) (if known then Label fresh ∷ lines else code)
+  by_place few does shape all true h = based few does h
+  by_place few does shape all false h = valued shape all h
+
+pub constant_sums_are_pointed : ConstantSumsArePointed
+constant_sums_are_pointed g a size kind t s q x z placed names number bytes_are few shape does all pushed fresh =
+    subst (λ o. Tells g a placed size kind t s q x z names number bytes_are pushed fresh (sum_place (target_of a.frame pushed x) o) (if sum_has_base (target_of a.frame pushed x) o then Label fresh ∷ pointer_base_code a.frame pushed (fresh + 1) Pointer x else sum_base_code a.frame pushed fresh Pointer t Add x (node s (constant z))))
+    (sym (added_is g a size kind t s q x z names number bytes_are pushed fresh))
+    (by_place g a placed size kind t s q x z names number bytes_are pushed fresh few does shape all (has_base (target_of a.frame pushed x) (residue_of z * size_of (unit_in g).types (type_in q) % 4294967296)) refl)

@@ -1,0 +1,5 @@
+use Rattle.c65_agree_access.proofs.MemoryLoads.{memory_loads_do}
+use Rattle.c65_agree_access.proofs.element_laws.memory_loads_do.Goals as goal
+
+pub returns : goal.returns
+returns c = memory_loads_do

@@ -1,0 +1,9 @@
+pub mod Pointed
+pub mod Sums
+pub mod PointedLaws
+pub mod LoadLaws
+pub mod Lows
+pub mod Destinations
+pub mod StoreLaws
+pub mod Elements
+pub mod ElementLaws

@@ -1,0 +1,10 @@
+pub mod Pointing
+pub mod Through
+pub mod Points
+pub mod RightEnds
+pub mod RightNodes
+pub mod LeftPointers
+pub mod Forms
+pub mod Unused
+pub mod Fills
+pub mod Effects

@@ -1,0 +1,2 @@
+mod Main
+mod Returned

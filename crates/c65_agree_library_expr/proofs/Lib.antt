@@ -1,0 +1,8 @@
+mod Calling
+mod Library
+mod Named
+mod Passed
+mod Reaching
+mod Refused
+mod Returned
+mod Words

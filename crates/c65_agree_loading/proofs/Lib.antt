@@ -1,0 +1,14 @@
+pub mod Manners
+pub mod Arriving
+pub mod Literals
+pub mod Objects
+pub mod Pointers
+pub mod Members
+pub mod Sums
+pub mod Wholes
+pub mod Behind
+pub mod Fetching
+pub mod Loads
+pub mod Zeros
+pub mod Tests
+pub mod Banked

@@ -1,0 +1,3 @@
+pub mod Bases
+pub mod BaseLaws
+pub mod LoadLaws

@@ -1,5 +1,0 @@
-use Rattle.c65_agree_state.proofs.Parts.{between_is_ready}
-use Rattle.c65_agree_state.proofs.laws.between_is_ready.Goals as goal
-
-pub returns : goal.returns
-returns c = between_is_ready

@@ -1,0 +1,5 @@
+use Rattle.c65_agree_variadic.proofs.Passed.{further_entries_keep}
+use Rattle.c65_agree_variadic.proofs.laws.further_entries_keep.Goals as goal
+
+pub returns : goal.returns
+returns c = further_entries_keep

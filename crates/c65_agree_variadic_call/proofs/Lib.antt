@@ -1,0 +1,5 @@
+pub mod Passed
+pub mod Few
+pub mod Calling
+pub mod Named
+pub mod Pointed

@@ -1,0 +1,5 @@
+use Rattle.c65_agree_variadic_call.proofs.Pointed.{further_pointer_calls_do}
+use Rattle.c65_agree_variadic_call.proofs.laws.further_pointer_calls_do.Goals as goal
+
+pub returns : goal.returns
+returns c = further_pointer_calls_do

@@ -1,0 +1,4 @@
+pub mod Arguments
+pub mod Moved
+pub mod Functions
+mod Calls
